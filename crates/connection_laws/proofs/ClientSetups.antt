@@ -36,7 +36,7 @@ use Rattle.film_streams.specs.Films.{IsFilmAt, Names}
 use Rattle.vod_base.specs.Limits.{WritesNumber}
 use Rattle.film_streams.specs.Setups.{AreChannelsOf, AsksForSetup, IsChosen}
 use Rattle.session_laws.proofs.SetupLemmas.{IsSetupRequest}
-use Rattle.film_streams.specs.declared.stream_numbers.StreamSource.{StreamSource}
+use Rattle.session.specs.SessionStates.{SessionState}
 
 -- ---- the film that a URL names
 
@@ -101,14 +101,12 @@ url_parts wish tail =
 -- what a course begins with, and what it is asked for
 pub record Beginning : Type 0 where
   pub wish : Wish
-  pub films : List Stored
-  pub settings : Settings
+  pub start : SessionState
   pub session : List ℕ
-  pub source : StreamSource
   pub wished : IsWish wish
   pub port : wish.port < 2 ^ 16
   pub session_is : IsSessionId session
-  pub slot_units : settings.slot_units ≡ wish.slot_units
+  pub slot_units : start.settings.slot_units ≡ wish.slot_units
 
 url_name : {authority name : List ℕ} (b : Beginning) (tail : List ℕ) → IsTail tail
     → IsRead (film_url b.wish ++ tail) authority (Some name) → name ≡ string_bytes b.wish.name

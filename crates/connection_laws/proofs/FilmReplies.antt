@@ -29,11 +29,12 @@ use Rattle.rtsp_text.proofs.ReplyTexts.{front_field, whole_reply}
 use Rattle.rtsp_fields.specs.Urls.{IsRead}
 use Rattle.conn.specs.InputSteps.{HasHeard, IsAskAnswered, Outcome, Entered}
 use Rattle.connection_laws.proofs.CompleteReplies.{admitted_from, id_printed}
-use Rattle.connection_laws.proofs.KeptParts.{IsSameSetup, answered_names}
+use Rattle.connection_laws.proofs.KeptParts.{IsSameSetup, answered_names, names_in}
 use Rattle.connection_laws.proofs.ReplyReadings.{IsPrinted, IsPlayAnswer, play_answer}
 use Rattle.connection_laws.proofs.RequestEffects.{Begins}
 use Rattle.connection_laws.proofs.RequestReplies.{IsNamed, named_still, play_asked, asked_named, AsksClientPlay}
-use Rattle.connection_laws.proofs.SetupOnly.{IsUnbegun, IsWaiting}
+use Rattle.connection_laws.proofs.SetupOnly.{Ground, IsUnbegun, IsWaiting}
+use Rattle.session.proofs.InitialStateLemmas.{HeardMessage, heard_by}
 use Rattle.conn.proofs.StationAnswers.{answers_as}
 use Rattle.connection_laws.proofs.ClientSetups.{Beginning}
 
@@ -65,7 +66,7 @@ name_prints name good =
 pub record IsFilmAnswer (b : Beginning) (message : List ℕ) : Type 0 where
   pub number : ℕ
   pub stored : Stored
-  pub at : IsFilmAt b.films number stored
+  pub at : IsFilmAt b.start.films number stored
   pub name_is : string_bytes stored.name ≡ string_bytes b.wish.name
   pub answer : IsPlayAnswer (length_ms stored.film) message
 
@@ -90,77 +91,83 @@ started_reply {front} fields slots is =
     whole_reply {old = front ++ field_line own} 200 (Some 2) (fields ++ own ∷ []) [] refl more
 
 -- a client's PLAY was admitted, and its reply is a complete message
-record IsPlayAnswered (b : Beginning) (old asking new : SessionState) (start : ℕ) : Type 0 where
-  waits : IsWaiting b old
-  valid : HasValidIds old
-  asked : AsksClientPlay b old asking
-  later : asking.heard < start
-  text : new.text ≡ started_text asking.text (start - asking.heard)
+record IsPlayAnswered (b : Beginning) (h : HeardMessage) (new : SessionState) (start : ℕ) : Type 0 where
+  waits : IsWaiting b h.old
+  valid : HasValidIds h.old
+  asked : AsksClientPlay b h
+  later : h.new.heard < start
+  text : new.text ≡ started_text h.new.text (start - h.new.heard)
   whole : IsMessage new.text
 
-module _ {b : Beginning} {old new : SessionState} where
-  film_answer : {asking : SessionState} {start : ℕ} → IsPlayAnswered b old asking new start → start ≤ 2 ^ 62 + 1
-      → IsFilmAnswer b new.text
-  film_answer {asking} {start} play few =
-      let stored = asked.stored in
-      let slots = start - asking.heard in
-      let fields =
-      play_fields old.id 0 (length_ms stored.film) asked.authority (string_bytes stored.name) asked.number asked.time in
-      let begun = subst (IsUnbegun b.wish b.films) asked.ready waits.unbegun in
-      let at = subst (λ films. IsFilmAt films asked.setup.film stored) waits.films_are asked.at in
-      let named : string_bytes stored.name ≡ string_bytes b.wish.name = begun.1.film stored at in
-      record {
-        number = asked.setup.film;
-        stored = stored;
-        at = at;
-        name_is = named;
-        answer = play_answer (record {
-          id = old.id;
-          end_ms = length_ms stored.film;
-          authority = asked.authority;
-          name = string_bytes stored.name;
-          number = asked.number;
-          time = asked.time;
-          slots = slots;
-          id_prints = id_printed play.valid;
-          end_fits = end_fits stored.film;
-          authority_prints = authority_prints asked.names.read;
-          name_prints = rw named (name_prints (string_bytes b.wish.name) b.wished.name);
-          number_fits = omega (arith, asked.number_fits);
-          time_fits = omega (arith, asked.time_fits);
-          some = omega (arith, play.later);
-          few = omega (arith, few);
-        }) play.whole (play.text ∙ started_reply fields slots asked.text);
-      }
-    where
-      open play use {waits, asked}
+film_answer : {b : Beginning} {h : HeardMessage} {new : SessionState} {start : ℕ} → IsPlayAnswered b h new start
+    → start ≤ 2 ^ 62 + 1 → IsFilmAnswer b new.text
+film_answer {b} {h} {start = start} play few =
+    let stored = asks.stored in
+    let setup = starts.setup in
+    let slots = start - h.new.heard in
+    let authority = starts.asked.authority.now in
+    let fields =
+    play_fields h.old.id 0 (length_ms stored.film) authority (string_bytes stored.name) asked.number asked.time in
+    let begun = subst (IsUnbegun b.wish b.start.films) starts.ready waits.still.unbegun in
+    let at = subst (λ (g : Ground). IsFilmAt g.films setup.film stored) waits.still.ground asks.at in
+    let named : string_bytes stored.name ≡ string_bytes b.wish.name = begun.1.film stored at in
+    record {
+      number = setup.film;
+      stored = stored;
+      at = at;
+      name_is = named;
+      answer = play_answer (record {
+        id = h.old.id;
+        end_ms = length_ms stored.film;
+        authority = authority;
+        name = string_bytes stored.name;
+        number = asked.number;
+        time = asked.time;
+        slots = slots;
+        id_prints = id_printed play.valid;
+        end_fits = end_fits stored.film;
+        authority_prints = authority_prints asked.names.read;
+        name_prints = rw named (name_prints (string_bytes b.wish.name) b.wished.name);
+        number_fits = omega (arith, asked.number_fits);
+        time_fits = omega (arith, asked.time_fits);
+        some = omega (arith, play.later);
+        few = omega (arith, few);
+      }) play.whole (play.text ∙ started_reply fields slots asked.text);
+    }
+  where
+    open play use {waits, asked}
+    open asked use {started}
+    open started use {play as starts, asks}
 
-  pub play_begun : {message : List ℕ} {outcome : Outcome} → IsWaiting b old → HasValidIds old
-      → (heard : HasHeard old message outcome new) → message ≡ play_text b.wish b.session
-      → (begins : Begins old heard.asking.awaited outcome new) → IsMessage new.text → IsPlayBegun b begins.start old new
-  play_begun {outcome = outcome} waits valid heard is begins whole =
-      let asking = heard.asking in
-      let asked = play_asked b old heard.ask asking begins.prepared waits begins.asked_is is heard.hears in
-      let place = begins.placed.place in
-      let admitted = admitted_from begins.answer (answers_as heard.ask (Entered begins.placed)
-      (subst (λ o. IsAskAnswered asking heard.ask o new) begins.outcome_is heard.answered)) in
-      let state : setup_in new.state ≡ Some asked.setup =
-      ap (λ (s : SessionState). setup_in s.state) admitted.new_is
-      ∙ ap₂ (λ s a. setup_in (admitted_in s a place begins.start)) (asked.state ∙ asked.ready) begins.asked_is in
-      let same : IsSameSetup old new = record {
-        names = answered_names asking heard.ask outcome new heard.answered ∙ asked.same;
-        setup = state ∙ sym (ap setup_in asked.ready);
-      } in
-      let play : IsPlayAnswered b old asking new begins.start = record {
-        waits = waits;
-        valid = valid;
-        asked = asked;
-        later = admitted.later;
-        text = ap (λ (s : SessionState). s.text) admitted.new_is;
-        whole = whole;
-      } in
-      record {
-        ready = ap has_session_in asked.ready;
-        own = named_still same (asked_named asked);
-        answer = λ few. film_answer play few;
-      }
+pub play_begun : {b : Beginning} {old new : SessionState} {message : List ℕ} {outcome : Outcome} → IsWaiting b old
+    → HasValidIds old → (heard : HasHeard old message outcome new) → message ≡ play_text b.wish b.session
+    → (begins : Begins old heard.asking.awaited outcome new) → IsMessage new.text → IsPlayBegun b begins.start old new
+play_begun {b} {old} {new} {outcome = outcome} waits valid heard is begins whole =
+    let asking = heard.asking in
+    let h : HeardMessage = heard_by heard.hears in
+    let asked = play_asked b h waits begins.asked_is is in
+    let ready = asked.started.play.ready in
+    let is_new = asked.started.asks.state in
+    let admitted = admitted_from begins.answer (answers_as heard.ask (Entered begins.placed)
+    (subst (λ o. IsAskAnswered asking heard.ask o new) begins.outcome_is heard.answered)) in
+    let state : setup_in new.state ≡ Some asked.started.play.setup =
+    ap (λ (s : SessionState). setup_in s.state) admitted.new_is
+    ∙ ap₂ (λ s a. setup_in (admitted_in s a begins.placed.place begins.start))
+    (ap (λ (s : SessionState). s.state) is_new ∙ ready) begins.asked_is in
+    let same : IsSameSetup old new = record {
+      names = answered_names asking heard.ask outcome new heard.answered ∙ ap names_in is_new;
+      setup = state ∙ sym (ap setup_in ready);
+    } in
+    let play : IsPlayAnswered b h new begins.start = record {
+      waits = waits;
+      valid = valid;
+      asked = asked;
+      later = admitted.later;
+      text = ap (λ (s : SessionState). s.text) admitted.new_is;
+      whole = whole;
+    } in
+    record {
+      ready = ap has_session_in ready;
+      own = named_still same (asked_named asked);
+      answer = λ few. film_answer play few;
+    }

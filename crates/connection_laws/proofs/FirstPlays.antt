@@ -42,7 +42,8 @@ use Rattle.session_laws.proofs.WholeFilmLemmas.{asked-whole}
 use Rattle.connection_laws.specs.Plays.{FilmPlay}
 use Rattle.session_laws.proofs.PlayInReadyLemmas.{IsPlayHeard}
 use Rattle.connection_laws.proofs.ClientSetups.{IsSettled, range_is, Beginning}
-use Rattle.connection_laws.proofs.SetupOnly.{IsUnbegun, IsWaiting}
+use Rattle.connection_laws.proofs.SetupOnly.{Ground, IsUnbegun, IsWaiting}
+use Rattle.session.proofs.InitialStateLemmas.{HeardMessage}
 use Rattle.session.specs.declared.plans.Planned.{Planned}
 
 pub playback_same : (a b : Playback) → a.picture_units ≡ b.picture_units → a.slot_units ≡ b.slot_units
@@ -89,12 +90,12 @@ asked_plan {wish} {stored} {settings} {setup} {plan} wished set is =
 pub record IsWished (b : Beginning) (play : FilmPlay) : Type 0 where
   pub number : ℕ
   pub stored : Stored
-  pub at : IsFilmAt b.films number stored
+  pub at : IsFilmAt b.start.films number stored
   pub name_is : string_bytes stored.name ≡ string_bytes b.wish.name
   pub identity : Identity
   pub media : identity.channel ≡ 0
   pub control : identity.control ≡ 1
-  pub ssrc : identity.ssrc ≡ b.source.ssrc
+  pub ssrc : identity.ssrc ≡ b.start.source.ssrc
   pub pieces : play.pieces ≡ film_blocks stored identity
   pub before : play.before ≡ 0
   pub sending : IsSending (stored_sizes stored) (playback_of b.wish stored) (whole_run stored) play.plan
@@ -113,7 +114,7 @@ planned_whole {stored = stored} is = is.run_is ∙ asked-whole stored is.wanted 
 -- a session planned a run for the client, which is the entire film
 record IsPlannedFor (b : Beginning) (settings : Settings) (stored : Stored) (setup : Setup) (planned : Planned)
     : Type 0 where
-  settled : IsSettled b.wish b.films setup
+  settled : IsSettled b.wish b.start.films setup
   slot_units : settings.slot_units ≡ b.wish.slot_units
   run_is : planned.run ≡ whole_run stored
   sending : IsSending (stored_sizes stored) (session_playback stored.film settings setup) planned.run planned.plan
@@ -128,46 +129,50 @@ module _ {b : Beginning} where
       is.slot_units is.settled.buffer is.settled.delay in
       subst (S (playback_of b.wish stored)) is.run_is (subst (λ p. S p planned.run) playback is.sending)
 
-  heard_planned : {old : SessionState} {message : List ℕ} {prepared : Prepared} → IsWaiting b old
-      → message ≡ play_text b.wish b.session → (heard : IsPlayHeard old message prepared)
-      → IsPlannedFor b old.settings heard.stored heard.setup heard.planned
-  heard_planned {old} waits is heard =
-      let begun = subst (IsUnbegun b.wish b.films) heard.ready waits.unbegun in
+  heard_planned : {h : HeardMessage} {prepared : Prepared} → IsWaiting b h.old
+      → h.message ≡ play_text b.wish b.session → (heard : IsPlayHeard h prepared)
+      → IsPlannedFor b h.old.settings heard.started.asks.stored heard.started.play.setup heard.started.planned
+  heard_planned waits is heard =
+      let begun = subst (IsUnbegun b.wish b.start.films) play.ready waits.still.unbegun in
       let asked = play-asked b.wish b.session b.wished b.port b.session_is in
       let R : List ℕ → Type 0 = λ m.
       IsRequest m (codes "PLAY") (film_url b.wish) 2 (request_head (play_parts b.wish b.session)) [] in
-      let same = request_once heard.is_request (subst R (sym is) asked.read) in
-      let range : header_value heard.request.head.now (codes "Range") ≡ Some (codes "npt=0-") =
+      let same = request_once play.taken.is_request (subst R (sym is) asked.read) in
+      let range : header_value play.taken.request.head.now (codes "Range") ≡ Some (codes "npt=0-") =
       ap (λ h. header_value h (codes "Range")) same.head_is ∙ range_is b in
       record {
         settled = begun.1;
-        slot_units = ap (λ (s : Settings). s.slot_units) waits.settings_are ∙ b.slot_units;
-        run_is = planned_whole (rw (begun.0, range) at heard.planned_is);
-        sending = record { can_play = heard.planned_is.can_play; plan_is = heard.planned_is.plan_is };
+        slot_units = ap (λ (g : Ground). g.settings.slot_units) waits.still.ground ∙ b.slot_units;
+        run_is = planned_whole (rw (begun.0, range) at planned_is);
+        sending = record { can_play = planned_is.can_play; plan_is = planned_is.plan_is };
       }
+    where
+      open heard use {started}
+      open started use {play, planned_is}
 
-pub wished_play : {b : Beginning} {old : SessionState} {message : List ℕ} {prepared : Prepared} {play : FilmPlay}
-    → IsWaiting b old → message ≡ play_text b.wish b.session → IsPlayHeard old message prepared
+pub wished_play : {b : Beginning} {h : HeardMessage} {prepared : Prepared} {play : FilmPlay}
+    → IsWaiting b h.old → h.message ≡ play_text b.wish b.session → IsPlayHeard h prepared
     → play.plan ≡ prepared.plan → play.before ≡ prepared.run.sent → play.pieces ≡ run_pieces prepared.frames
     → IsWished b play
-wished_play {b} {old} {prepared = prepared} {play} waits is heard plan before pieces =
-    let stored = heard.stored in
-    let setup = heard.setup in
+wished_play {b} {h} {prepared} {play} waits is heard plan before pieces =
+    let stored = started.asks.stored in
+    let setup = started.play.setup in
     let its = heard_planned waits is heard in
-    let identity = identity_of old.source setup heard.planned.counts in
-    let at = subst (λ films. IsFilmAt films setup.film stored) waits.films_are heard.planned_is.at in
-    let plan_is : play.plan ≡ heard.planned.plan = plan ∙ ap (λ (p : Prepared). p.plan) heard.prepared_is in
+    let at = subst (λ (g : Ground). IsFilmAt g.films setup.film stored) waits.still.ground started.planned_is.at in
+    let plan_is : play.plan ≡ started.planned.plan = plan ∙ ap (λ (p : Prepared). p.plan) prepared_is in
     record {
       number = setup.film;
       stored = stored;
       at = at;
       name_is = its.settled.film stored at;
-      identity = identity;
+      identity = identity_of h.old.source setup started.planned.counts;
       media = its.settled.media;
       control = its.settled.control;
-      ssrc = ap (λ (s : StreamSource). s.ssrc) waits.source_is;
-      pieces = rw (pieces, heard.prepared_is, its.run_is);
-      before = before ∙ (ap (λ (p : Prepared). p.run.sent) heard.prepared_is ∙ ap (λ (r : Run). r.sent) its.run_is);
+      ssrc = ap (λ (g : Ground). g.source.ssrc) waits.still.ground;
+      pieces = rw (pieces, prepared_is, its.run_is);
+      before = before ∙ (ap (λ (p : Prepared). p.run.sent) prepared_is ∙ ap (λ (r : Run). r.sent) its.run_is);
       sending = subst (IsSending (stored_sizes stored) (playback_of b.wish stored) (whole_run stored)) (sym plan_is)
           (sending_for its);
     }
+  where
+    open heard use {started, prepared_is}

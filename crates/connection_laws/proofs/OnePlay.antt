@@ -15,9 +15,9 @@ use Rattle.session.specs.declared.states.State.{State}
 use Rattle.session.specs.declared.states.State.TheVariants.{Init}
 use Rattle.session_laws.specs.CompleteReplies.{HasValidIds}
 use Rattle.session_laws.proofs.CompleteReplyLemmas.{replies_whole}
-use Rattle.conn.specs.InputSteps.{HasHeard, IsAskAnswered, Outcome, Stage, Entered}
+use Rattle.conn.specs.InputSteps.{IsAskAnswered, Stage, Entered}
 use Rattle.connection_laws.specs.Courses.{Course}
-use Rattle.connection_laws.specs.Plays.{StationRequest, Asks, FilmPlay, plays_begun, play_by, plays_of}
+use Rattle.connection_laws.specs.Plays.{StationRequest, FilmPlay, plays_begun, play_by, plays_of}
 use Rattle.connection_laws.proofs.CourseSteps.{request_stands}
 use Rattle.conn.proofs.StationAnswers.{answers_as}
 use Rattle.connection_laws.proofs.KeptParts.{LastingPart, taken_keeps, replied_setup, comes_setup}
@@ -25,7 +25,8 @@ use Rattle.connection_laws.proofs.CourseInduction.{comes_heard, AnsweredRequest,
 use Rattle.connection_laws.proofs.CourseInduction.{asking_of, GoesBack, course_back, begin_of, piece_of}
 use Rattle.connection_laws.proofs.SetupOnly.{AreNoPlays, IsNoPlay, no_play_begins, IsWaiting, answered_waits}
 use Rattle.connection_laws.proofs.SetupOnly.{reply_same, setup_asked, NonePlayed, none_back, event_waits}
-use Rattle.session_laws.proofs.PlayInReadyLemmas.{IsPlayHeard, play_heard}
+use Rattle.session_laws.proofs.PlayInReadyLemmas.{play_heard}
+use Rattle.session.proofs.InitialStateLemmas.{heard_by}
 use Rattle.connection_laws.proofs.ClientSetups.{setup_is, Beginning}
 use Rattle.session_laws.proofs.SetupLemmas.{IsSetupRequest}
 use Rattle.connection_laws.proofs.RequestEffects.{Begins, Ends, Starts, Stays, TurnsAs, begun_is, turns_as}
@@ -131,71 +132,10 @@ setup_no_play b {message} is = λ request read method.
     let same = request_once setup.read read in
     let clash : 83 ≡ 80 = ap (λ name. get_or name 0 0) (same.method_is ∙ method) in omega (arith, clash)
 
--- PLAY is processed, and no play begins after it
-record IsPlayTaken (b : Beginning) (out : Outlook) (old : SessionState) (message : List ℕ) (asking : StationRequest)
-    (later : List StationRequest) : Type 0 where
-  waits : IsWaiting b old
-  message_is : message ≡ play_text b.wish b.session
-  none : plays_of later ≡ []
-  plays : plays_of (asking ∷ later) ≡ out.play ∷ out.others
-
--- it is the one that is to come, with those after it
+-- a play is the one that is to come, with those after it
 record IsPlayBegun (out : Outlook) (mine : FilmPlay) (later : List StationRequest) : Type 0 where
   same : mine ≡ out.play
   rest : plays_of later ≡ out.others
-
--- PLAY is processed with this answer, before what is asked later
-record PlayTurn (b : Beginning) (out : Outlook) : Type 0 where
-  old : SessionState
-  new : SessionState
-  message : List ℕ
-  outcome : Outcome
-  later : List StationRequest
-  heard : HasHeard old message outcome new
-  taken : IsPlayTaken b out old message (Asks heard.asking.awaited outcome) later
-
-abbrev Turns : {b : Beginning} {out : Outlook} → PlayTurn b out → Type 0
-Turns turn = TurnsAs turn.old turn.heard.asking.awaited turn.outcome turn.new
-
-begun_same : {b : Beginning} {out : Outlook} (turn : PlayTurn b out)
-    (begins : Begins turn.old turn.heard.asking.awaited turn.outcome turn.new)
-    → IsPlayBegun out (play_by begins.prepared begins.start turn.later) turn.later
-begun_same {out = out} turn begins =
-    let all : play_by begins.prepared begins.start later ∷ plays_of later ≡ out.play ∷ out.others =
-    sym (ap (λ l. l ++ plays_of later) (begun_is begins later)) ∙ taken.plays in
-    record { same = cc; rest = cc }
-  where
-    open turn use {later, taken}
-
--- a play begins at PLAY
-begun_play : {b : Beginning} {out : Outlook} (turn : PlayTurn b out) (slots : List ℕ)
-    (begins : Begins turn.old turn.heard.asking.awaited turn.outcome turn.new)
-    → IsPlayHeard turn.old turn.message begins.prepared → IsOnePlay b out turn.old.heard 0 (turn.old.heard ∷ slots)
-begun_play {b} {out} turn slots begins hears =
-    let begun = begun_same turn begins in
-    let same = begun.same in
-    let late : turn.old.heard < out.play.start =
-    subst (λ (p : FilmPlay). turn.old.heard < p.start) same begins.later in
-    record {
-      wished = subst (IsWished b) same (wished_play turn.taken.waits turn.taken.message_is hears refl refl refl);
-      alone = sym begun.rest ∙ turn.taken.none;
-      late = late;
-      before = (late, tt);
-    }
-
--- nothing begins at PLAY, though a play is to come
-not_begun : {b : Beginning} {out : Outlook} (turn : PlayTurn b out)
-    → plays_begun turn.heard.asking.awaited turn.outcome turn.later ≡ [] → ⊥
-not_begun {out = out} turn begun =
-    let clash : [] ≡ out.play ∷ out.others =
-    sym turn.taken.none ∙ (sym (ap (λ l. l ++ plays_of turn.later) begun) ∙ turn.taken.plays) in
-    let no : ⊥ = cc in no
-
-turn_begins : {b : Beginning} {out : Outlook} (turn : PlayTurn b out) → Turns turn
-    → Begins turn.old turn.heard.asking.awaited turn.outcome turn.new
-turn_begins turn (Stays same still) = absurd (not_begun turn (still.none turn.later))
-turn_begins turn (Ends halts) = absurd (not_begun turn (halts.none turn.later))
-turn_begins turn (Starts begins) = begins
 
 -- a request that is processed, and what comes after it
 record Taken (b : Beginning) (out : Outlook) : Type 0 where
@@ -208,56 +148,82 @@ record Taken (b : Beginning) (out : Outlook) : Type 0 where
 abbrev from_taken : {b : Beginning} {out : Outlook} → Taken b out → Piece
 from_taken taken = joined (request_piece taken.request) taken.later
 
--- where all SETUPs were processed, PLAY is processed
-play_first : {b : Beginning} {out : Outlook} (taken : Taken b out)
-    → IsAhead b out taken.old.session [] (from_taken taken)
-    → IsPlayTaken b out taken.old.session taken.request.message (asking_of taken.request) taken.later.askings
-    × (taken.later.requests ≡ out.last)
-play_first {b} {out} taken is =
-    let all : request.message ∷ later.requests ≡ play_text b.wish b.session ∷ out.last = is.requests_are in
-    let at : request.message ≡ play_text b.wish b.session = cc in
-    let rest : later.requests ≡ out.last = cc in
-    let none = leads.none (request_stands request is.waits.stands) (subst AreNoPlays (sym rest) out.last_are) in
-    (record { waits = is.waits; message_is = at; none = none; plays = is.plays }, rest)
-  where
-    open taken use {request, later, leads}
+module _ {b : Beginning} {out : Outlook} (taken : Taken b out) where
+  open taken use {old, new, request, later, leads}
+  open request use {message, outcome, replied}
+  open replied use {heard}
 
-play_walk : {b : Beginning} {out : Outlook} (taken : Taken b out)
-    → IsAhead b out taken.old.session [] (from_taken taken)
-    → IsPlayedWhole b out taken.old.session 0 (from_taken taken)
-play_walk {b} {out} taken is =
-    let play = play_first taken is in
-    let heard = replied.heard in
-    let rest = is.waits.stands.rest in
-    let turn : PlayTurn b out = record {
-      old = old.session;
-      new = replied.answered;
-      message = message;
-      outcome = outcome;
-      later = later.askings;
-      heard = heard;
-      taken = play.0;
-    } in
-    let begins = turn_begins turn (turns_as heard) in
-    let hears = play_heard old.session message heard.ask heard.asking begins.prepared rest begins.asked_is heard.hears in
-    let admitted = admitted_from begins.answer (answers_as heard.ask (Entered begins.placed)
-    (subst (λ o. IsAskAnswered heard.asking heard.ask o replied.answered) begins.outcome_is heard.answered)) in
-    let whole = admitted.whole (replies_whole old.session message heard.ask heard.asking is.named
-    (play_room b play.0.message_is) heard.hears) begins.small in
-    let begun = subst (λ (p : FilmPlay). IsPlayBegunAt b p.start old.session replied.answered)
-    (begun_same turn begins).same (play_begun_at is.waits is.named heard play.0.message_is begins whole) in
-    let own : IsNamed b new.session = rw replied.new_is (named_still (replied_setup replied.answered) begun.own) in
-    let after = leads.torn (answered_named request is.named) own
-    (subst (AreTeardowns b) (sym play.1) is.teardowns) in
-    record {
-      one = begun_play turn later.slots begins hears;
-      whole = (whole, after.0);
-      ready = begun.ready;
-      read = λ few. (begun.answer few, after.1);
-    }
-  where
-    open taken use {old, new, request, later, leads}
-    open request use {message, outcome, replied}
+  -- PLAY is processed, and no play begins after it
+  record IsPlayTaken : Type 0 where
+    waits : IsWaiting b old.session
+    message_is : message ≡ play_text b.wish b.session
+    none : plays_of later.askings ≡ []
+    plays : plays_of (asking_of request ∷ later.askings) ≡ out.play ∷ out.others
+
+  abbrev PlayBegins : Type 0
+  PlayBegins = Begins old.session heard.asking.awaited outcome replied.answered
+
+  begun_same : IsPlayTaken → (begins : PlayBegins)
+      → IsPlayBegun out (play_by begins.prepared begins.start later.askings) later.askings
+  begun_same play begins =
+      let all : play_by begins.prepared begins.start later.askings ∷ plays_of later.askings ≡ out.play ∷ out.others =
+      sym (ap (λ l. l ++ plays_of later.askings) (begun_is begins later.askings)) ∙ play.plays in
+      record { same = cc; rest = cc }
+
+  -- a play begins at PLAY
+  begun_play : IsPlayTaken → PlayBegins → IsOnePlay b out old.session.heard 0 (old.session.heard ∷ later.slots)
+  begun_play play begins =
+      let begun = begun_same play begins in
+      let hears = play_heard (heard_by heard.hears) (record { rest = play.waits.stands.rest; asks = begins.asked_is }) in
+      let late : old.session.heard < out.play.start =
+      subst (λ (p : FilmPlay). old.session.heard < p.start) begun.same begins.later in
+      record {
+        wished = subst (IsWished b) begun.same (wished_play play.waits play.message_is hears refl refl refl);
+        alone = sym begun.rest ∙ play.none;
+        late = late;
+        before = (late, tt);
+      }
+
+  -- nothing begins at PLAY, though a play is to come
+  not_begun : IsPlayTaken → plays_begun heard.asking.awaited outcome later.askings ≡ [] → ⊥
+  not_begun play begun =
+      let clash : [] ≡ out.play ∷ out.others =
+      sym play.none ∙ (sym (ap (λ l. l ++ plays_of later.askings) begun) ∙ play.plays) in
+      let no : ⊥ = cc in no
+
+  turn_begins : IsPlayTaken → TurnsAs old.session heard.asking.awaited outcome replied.answered → PlayBegins
+  turn_begins play (Stays same still) = absurd (not_begun play (still.none later.askings))
+  turn_begins play (Ends halts) = absurd (not_begun play (halts.none later.askings))
+  turn_begins play (Starts begins) = begins
+
+  -- where all SETUPs were processed, PLAY is processed
+  play_first : IsAhead b out old.session [] (from_taken taken) → IsPlayTaken × (later.requests ≡ out.last)
+  play_first is =
+      let all : message ∷ later.requests ≡ play_text b.wish b.session ∷ out.last = is.requests_are in
+      let at : message ≡ play_text b.wish b.session = cc in
+      let rest : later.requests ≡ out.last = cc in
+      let none = leads.none (request_stands request is.waits.stands) (subst AreNoPlays (sym rest) out.last_are) in
+      (record { waits = is.waits; message_is = at; none = none; plays = is.plays }, rest)
+
+  play_walk : IsAhead b out old.session [] (from_taken taken) → IsPlayedWhole b out old.session 0 (from_taken taken)
+  play_walk is =
+      let play = play_first is in
+      let begins = turn_begins play.0 (turns_as heard) in
+      let admitted = admitted_from begins.answer (answers_as heard.ask (Entered begins.placed)
+      (subst (λ o. IsAskAnswered heard.asking heard.ask o replied.answered) begins.outcome_is heard.answered)) in
+      let whole = admitted.whole (replies_whole old.session message heard.ask heard.asking is.named
+      (play_room b play.0.message_is) heard.hears) begins.small in
+      let begun = subst (λ (p : FilmPlay). IsPlayBegunAt b p.start old.session replied.answered)
+      (begun_same play.0 begins).same (play_begun_at is.waits is.named heard play.0.message_is begins whole) in
+      let own : IsNamed b new.session = rw replied.new_is (named_still (replied_setup replied.answered) begun.own) in
+      let after = leads.torn (answered_named request is.named) own
+      (subst (AreTeardowns b) (sym play.1) is.teardowns) in
+      record {
+        one = begun_play play.0 begins;
+        whole = (whole, after.0);
+        ready = begun.ready;
+        read = λ few. (begun.answer few, after.1);
+      }
 
 -- SETUP is processed before PLAY: its reply is read, and after it there is a session
 setup_walk : {b : Beginning} {out : Outlook} (taken : Taken b out) (one : List ℕ)

@@ -5,28 +5,28 @@ use Rattle.film_frames.specs.declared.stored_films.Stored.{Stored}
 use Rattle.film_run.specs.declared.runs.Run.{Run}
 use Rattle.rtsp_text.specs.Fields.{header_value}
 use Rattle.rtsp_text.specs.Replies.{reply_front, value_named}
-use Rattle.rtsp_text.specs.Requests.{IsRequest}
 use Rattle.rtsp_text.specs.RequestTexts.{request_head}
 use Rattle.rtsp_fields.specs.SessionIds.{IsSession}
 use Rattle.rtsp_client.specs.RequestParts.{play_parts, setup_parts, teardown_parts}
 use Rattle.rtsp_client.specs.Requests.{film_url, play_text, setup_text, teardown_text}
 use Rattle.rtsp_client.proofs.RequestGrammar.{play-asked, setup-asked, teardown-asked}
-use Rattle.session.specs.declared.commands.Ask.{Ask}
 use Rattle.session.specs.declared.states.Awaited.TheVariants.{Play}
 use Rattle.session.specs.declared.states.Prepared.{Prepared}
 use Rattle.film_streams.specs.declared.setups.Setup.{Setup}
 use Rattle.session.specs.declared.states.State.{State}
-use Rattle.session.specs.declared.states.State.TheVariants.{Init, Ready}
-use Rattle.film_streams.specs.Films.{IsFilmAt, Names, length_ms, milliseconds_at}
+use Rattle.session.specs.declared.states.State.TheVariants.{Init}
+use Rattle.film_streams.specs.Films.{Names, length_ms, milliseconds_at}
 use Rattle.film_streams.specs.StreamNumbers.{timestamp_at}
 use Rattle.session.specs.Methods.{first_number}
 use Rattle.session_laws.specs.MethodLaws.{setup_in}
 use Rattle.session.specs.RefusalOrder.{IsOwnSession}
 use Rattle.rtsp_methods.specs.RequiredOptions.{first_of}
 use Rattle.rtsp_replies.specs.Replies.{play_fields, session_text, setup_text as setup_reply}
-use Rattle.session.specs.RequestSteps.{Hears}
 use Rattle.session.specs.SessionStates.{SessionState, has_session_in}
-use Rattle.session_laws.proofs.ClientReplyLemmas.{IsCall, play_answered, setup_answered, teardown_answered}
+use Rattle.session_laws.proofs.ClientReplyLemmas.{play_answered, setup_answered, teardown_answered}
+use Rattle.session_laws.proofs.PlayInReadyLemmas.{PlayStarted}
+use Rattle.session_laws.proofs.SetupLemmas.{HeardCall}
+use Rattle.session.proofs.InitialStateLemmas.{HeardMessage, heard_by}
 use Rattle.connection_laws.specs.WholePlays.{whole_run}
 use Rattle.connection_laws.proofs.ClientSetups.{range_is, settled_by, Beginning}
 use Rattle.connection_laws.proofs.KeptParts.{IsSameSetup, names_in}
@@ -67,33 +67,28 @@ named_still {b} {old} {new} same named =
     }
 
 -- the station is asked for a play of the entire film, with the first part of its reply
-pub record AsksClientPlay (b : Beginning) (old new : SessionState) : Type 0 where
-  pub setup : Setup
-  pub paused : Option Run
-  pub ready : old.state ≡ Ready setup paused
-  pub stored : Stored
-  pub at : IsFilmAt old.films setup.film stored
-  pub authority : List ℕ
-  pub names : Names old.films (film_url b.wish) authority setup.film
+pub record AsksClientPlay (b : Beginning) (h : HeardMessage) : Type 0 where
+  pub started : PlayStarted h
+  pub names : Names h.old.films (film_url b.wish) started.play.asked.authority.now started.play.setup.film
   pub number : ℕ
   pub time : ℕ
   pub number_fits : number < 2 ^ 16
   pub time_fits : time < 2 ^ 32
-  pub text : new.text ≡ reply_front 200 (Some 2)
-      (play_fields old.id 0 (length_ms stored.film) authority (string_bytes stored.name) number time)
-  pub state : new.state ≡ old.state
-  pub heard : new.heard ≡ old.heard
-  pub same : names_in new ≡ names_in old
-  pub own : IsSession b.session old.id
+  pub text : h.new.text ≡ reply_front 200 (Some 2) (play_fields h.old.id 0 (length_ms started.asks.stored.film)
+      started.play.asked.authority.now (string_bytes started.asks.stored.name) number time)
+  pub own : IsSession b.session h.old.id
 
-pub asked_named : {b : Beginning} {old new : SessionState} → AsksClientPlay b old new → IsNamed b old
+pub asked_named : {b : Beginning} {h : HeardMessage} → AsksClientPlay b h → IsNamed b h.old
 asked_named asked = record {
-  setup = asked.setup;
-  setup_is = ap setup_in asked.ready;
+  setup = play.setup;
+  setup_is = ap setup_in play.ready;
   own = asked.own;
-  authority = asked.authority;
+  authority = play.asked.authority.now;
   names = asked.names;
 }
+  where
+    open asked use {started}
+    open started use {play}
 
 play_session : (b : Beginning)
     → header_value (request_head (play_parts b.wish b.session)) (codes "Session") ≡ Some b.session
@@ -142,13 +137,15 @@ setup_replied b {old} request is =
     let source = old.session.source in
     let heard = replied.heard in
     let asked = setup-asked b.wish b.wished b.port in
-    let url = film_url b.wish ++ codes "/video" in
-    let head = request_head (setup_parts b.wish) in
-    let call : IsCall request.message (codes "SETUP") url 1 head = record {
+    let call : HeardCall (codes "SETUP") = record {
+      h = heard_by heard.hears;
+      url = film_url b.wish ++ codes "/video";
+      sequence = 1;
+      head = request_head (setup_parts b.wish);
       body = [];
       read = rw is asked.read;
     } in
-    elim (setup_answered old.session request.message url 1 head heard.ask heard.asking call heard.hears) [
+    elim (setup_answered call) [
       | inl same ↦ inl same
       | inr told ↦
           let settled = settled_by b told.asks told.names in
@@ -158,44 +155,43 @@ setup_replied b {old} request is =
   where
     open request use {replied}
 
-module _ {message : List ℕ} (b : Beginning) (old : SessionState) (ask : Ask) (new : SessionState) where
-  pub play_asked : (prepared : Prepared) → IsWaiting b old → new.awaited ≡ Play prepared
-      → message ≡ play_text b.wish b.session → Hears old message ask new → AsksClientPlay b old new
-  play_asked prepared waits asks is hears =
-      let asked = play-asked b.wish b.session b.wished b.port b.session_is in
-      let head = request_head (play_parts b.wish b.session) in
-      let R : List ℕ → Type 0 = λ m. IsRequest m (codes "PLAY") (film_url b.wish) 2 head [] in
-      let told = play_answered old message (film_url b.wish) 2 head ask new prepared
-      (record { body = []; read = subst R (sym is) asked.read }) waits.stands.rest asks hears in
-      let stored = told.stored in
-      let setup = told.setup in
-      let begun = subst (IsUnbegun b.wish b.films) told.ready waits.unbegun in
-      let run : told.planned.run ≡ whole_run stored =
-      planned_whole (rw (begun.0, range_is b) at told.planned_is) in
-      let number = first_number old stored setup told.planned in
-      let time = timestamp_at stored.film old.source told.planned.run.from_unit in
-      let F : ℕ → ℕ → List ℕ = λ from to.
-      reply_front 200 (Some 2) (play_fields old.id from to told.authority (string_bytes stored.name) number time) in
-      let S : Option (List ℕ) → Type 0 = λ v. IsOwnSession (has_session_in old.state) old.id v ⊥ in
-      let own = subst S (play_session b) told.session in
-      record {
-        setup = setup;
-        paused = told.paused;
-        ready = told.ready;
-        stored = stored;
-        at = told.at;
-        authority = told.authority;
-        names = told.names;
-        number = number;
-        time = time;
-        number_fits = omega arith;
-        time_fits = omega arith;
-        text = told.text ∙ whole_front stored told.planned.run F run;
-        state = told.state;
-        heard = told.heard;
-        same = same_names old new told.films told.id;
-        own = own.1;
-      }
+pub play_asked : {prepared : Prepared} (b : Beginning) (h : HeardMessage) → IsWaiting b h.old
+    → h.new.awaited ≡ Play prepared → h.message ≡ play_text b.wish b.session → AsksClientPlay b h
+play_asked b h waits asks is =
+    let old = h.old in
+    let asked = play-asked b.wish b.session b.wished b.port b.session_is in
+    let call : HeardCall (codes "PLAY") = record {
+      h = h;
+      url = film_url b.wish;
+      sequence = 2;
+      head = request_head (play_parts b.wish b.session);
+      body = [];
+      read = rw is asked.read;
+    } in
+    let told = play_answered call (record { rest = waits.stands.rest; asks = asks }) in
+    let started = told.started in
+    let play = started.play in
+    let stored = started.asks.stored in
+    let planned = started.planned in
+    let name = play.asked.authority.now in
+    let begun = subst (IsUnbegun b.wish b.start.films) play.ready waits.still.unbegun in
+    let run : planned.run ≡ whole_run stored = planned_whole (rw (begun.0, range_is b) at told.planned_is) in
+    let number = first_number old stored play.setup planned in
+    let time = timestamp_at stored.film old.source planned.run.from_unit in
+    let F : ℕ → ℕ → List ℕ = λ from to.
+    reply_front 200 (Some 2) (play_fields old.id from to name (string_bytes stored.name) number time) in
+    let S : Option (List ℕ) → Type 0 = λ v. IsOwnSession (has_session_in old.state) old.id v ⊥ in
+    let own = subst S (play_session b) told.session in
+    record {
+      started = started;
+      names = told.names;
+      number = number;
+      time = time;
+      number_fits = omega arith;
+      time_fits = omega arith;
+      text = told.text ∙ whole_front stored planned.run F run;
+      own = own.1;
+    }
 
 pub teardown_replied : (b : Beginning) {old new : Stage} (request : AnsweredRequest old new)
     → request.message ≡ teardown_text b.wish b.session → IsNamed b old.session
@@ -205,15 +201,20 @@ teardown_replied b {old} request is named =
     let asked = teardown-asked b.wish b.session b.wished b.port b.session_is in
     let head = request_head (teardown_parts b.wish b.session) in
     let its = teardown_head b in
-    let call : IsCall request.message (codes "TEARDOWN") (film_url b.wish) 3 head =
-    record { body = []; read = rw is asked.read } in
-    let told = teardown_answered old.session request.message (film_url b.wish) 3 head heard.ask heard.asking call
-    (record {
+    let call : HeardCall (codes "TEARDOWN") = record {
+      h = heard_by heard.hears;
+      url = film_url b.wish;
+      sequence = 3;
+      head = head;
+      body = [];
+      read = rw is asked.read;
+    } in
+    let told = teardown_answered call (record {
       free = ap (λ v. first_of v (header_value head (codes "Proxy-Require"))) its.require ∙ its.proxy;
       session = rw its.session (has_one old.session.state named.setup_is, named.own);
       authority = named.authority;
       setup = named.setup;
       setup_is = named.setup_is;
       names = named.names;
-    }) heard.hears in
+    }) in
     record { text = told.text; same = record { names = same_names old.session heard.asking told.films told.id; setup = told.setup } }

@@ -31,7 +31,6 @@ use Rattle.connection_laws.proofs.Requests.{AreFound, joined, requests_front}
 use Rattle.connection_laws.proofs.FilmReading.{run_total}
 use Rattle.connection_laws.proofs.SetupOnly.{AreNoPlays, IsNoPlay, IsWaiting, none_played}
 use Rattle.connection_laws.proofs.ReplyOrder.{replies_in_order}
-use Rattle.film_streams.specs.StreamNumbers.{source_of}
 use Rattle.session_laws.proofs.CompleteReplyLemmas.{begins_named}
 use Rattle.connection_laws.proofs.EndToEndMeter.{rest_all}
 use Rattle.connection_laws.proofs.CourseSteps.{replies_sent, first_stands}
@@ -98,8 +97,6 @@ pub record AreTwoFirst (total : ℕ) (texts : List PlacedText) : Type 0 where
   pub second : List ℕ
   pub later : List PlacedText
   pub texts_are : texts ≡ placed_text 0 first ∷ placed_text 0 second ∷ later
-  pub first_is : IsMessage first
-  pub second_is : IsMessage second
   pub after : AreAfter total later
 
 -- replies of a course with one play, two of them to requests before it
@@ -129,18 +126,14 @@ two_first {play} {now} {total} (one ∷ two ∷ slots) (first ∷ second ∷ lat
       second = second.text;
       later = later;
       texts_are = ap (λ t. t ∷ second ∷ later) at_first ∙ ap (λ t. placed_text 0 first.text ∷ t ∷ later) at_second;
-      first_is = replies.messages.0;
-      second_is = replies.messages.1.0;
       after = subst (λ n. AreAfter n later) (sym replies.total_is) (after_film slots later rest);
     }
 
 abbrev pub beginning_of : {wish : Wish} {stored : Stored} {course : Course} → IsAskedFor wish stored course → Beginning
 beginning_of {wish} {stored} {course} asked = record {
   wish = wish;
-  films = course.films;
-  settings = course.settings;
+  start = (begin_of course).session;
   session = asked.session;
-  source = source_of course.words;
   wished = asked.wished;
   port = asked.port;
   session_is = asked.session_is;
@@ -191,10 +184,7 @@ first_waits : {wish : Wish} {stored : Stored} {course : Course} (asked : IsAsked
     → IsWaiting (beginning_of asked) (begin_of course).session
 first_waits {course = course} asked = record {
   stands = first_stands course.films course.settings course.words;
-  films_are = refl;
-  settings_are = refl;
-  source_is = refl;
-  unbegun = tt;
+  still = record { ground = refl; unbegun = tt };
 }
 
 pub requests_of : {wish : Wish} {stored : Stored} {course : Course} (asked : IsAskedFor wish stored course)
@@ -285,7 +275,8 @@ asked_played {wish} {stored} {course} asked =
       messages = each_front IsMessage (map text_of (course_texts course)) (waiting_reply course.last.session)
           (subst AreWhole (sym ordered) played.whole);
     } in
-    let two = two_first slots (course_texts course) replies in (
+    let two = two_first slots (course_texts course) replies in
+    let messages = subst AreWhole (ap (λ ts. map text_of ts) two.texts_are) replies.messages in (
       record {
         identity = one.wished.identity;
         play = play;
@@ -295,8 +286,8 @@ asked_played {wish} {stored} {course} asked =
         played = two.second;
         later = two.later;
         texts = two.texts_are;
-        setup_is = two.first_is;
-        played_is = two.second_is;
+        setup_is = messages.0;
+        played_is = messages.1.0;
         after = two.after;
       },
       refl,

@@ -11,7 +11,8 @@ use Rattle.connection_laws.specs.Courses.{Course, course_plays}
 use Rattle.connection_laws.specs.Plays.{StationRequest, plays_begun, plays_of}
 use Rattle.connection_laws.proofs.CourseSteps.{Stands, request_turns, request_stands, stands_by, event_step}
 use Rattle.connection_laws.proofs.CourseSteps.{first_stands}
-use Rattle.session_laws.proofs.PlayInReadyLemmas.{play_heard}
+use Rattle.session_laws.proofs.PlayInReadyLemmas.{play_started}
+use Rattle.session.proofs.InitialStateLemmas.{heard_by}
 use Rattle.connection_laws.proofs.BookedPlays.{comes_none}
 use Rattle.connection_laws.proofs.RequestEffects.{Ends, Starts, Stays}
 use Rattle.connection_laws.proofs.StationAnswers.{nothing_left}
@@ -24,6 +25,8 @@ use Rattle.rtsp_client.specs.declared.watch_request.Wish.{Wish}
 use Rattle.session.specs.declared.commands.Ask.{Ask}
 use Rattle.session.specs.declared.commands.Ask.TheVariants.{Reply}
 use Rattle.session.specs.declared.states.Awaited.TheVariants.{Nothing}
+use Rattle.film_streams.specs.declared.settings.Settings.{Settings}
+use Rattle.film_streams.specs.declared.stream_numbers.StreamSource.{StreamSource}
 use Rattle.session.specs.declared.states.State.{State}
 use Rattle.session.specs.declared.states.State.TheVariants.{Init, Ready, Playing, Stopping}
 use Rattle.film_streams.specs.Films.{Names}
@@ -50,9 +53,8 @@ no_play_begins {old} request stands none askings =
       | Stays same still ↦ still.none askings
       | Starts begins ↦
           let heard = request.replied.heard in
-          let its = play_heard old.session request.message heard.ask heard.asking begins.prepared stands.rest
-          begins.asked_is heard.hears in
-          absurd (none its.request its.is_request its.method)
+          let taken = (play_started (heard_by heard.hears) (record { rest = stands.rest; asks = begins.asked_is })).play.taken in
+          absurd (none taken.request taken.is_request taken.judged.talk.spoken.named)
       | Ends halts ↦ halts.none askings
     ]
 
@@ -78,12 +80,29 @@ IsUnbegun wish films Init = ⊤
 IsUnbegun wish films (Ready setup paused) = (paused ≡ None) × IsSettled wish films setup
 IsUnbegun wish films _ = ⊥
 
+-- what of a session no request changes
+pub record Ground : Type 0 where
+  pub films : List Stored
+  pub settings : Settings
+  pub source : StreamSource
+
+abbrev pub ground_of : SessionState → Ground
+ground_of s = record { films = s.films; settings = s.settings; source = s.source }
+
+pub record IsWaitingStill (b : Beginning) (s : SessionState) : Type 0 where
+  pub ground : ground_of s ≡ ground_of b.start
+  pub unbegun : IsUnbegun b.wish b.start.films s.state
+
 pub record IsWaiting (b : Beginning) (s : SessionState) : Type 0 where
   pub stands : Stands s
-  pub films_are : s.films ≡ b.films
-  pub settings_are : s.settings ≡ b.settings
-  pub source_is : s.source ≡ b.source
-  pub unbegun : IsUnbegun b.wish b.films s.state
+  pub still : IsWaitingStill b s
+
+still_as : {b : Beginning} {old new : SessionState} → ground_of new ≡ ground_of old → new.state ≡ old.state
+    → IsWaitingStill b old → IsWaitingStill b new
+still_as {b} ground state still = record {
+  ground = ground ∙ still.ground;
+  unbegun = subst (IsUnbegun b.wish b.start.films) (sym state) still.unbegun;
+}
 
 unsending : (wish : Wish) (films : List Stored) (state : State) → IsUnbegun wish films state → is_sending state ≡ false
 unsending wish films (Playing setup play) is = absurd is
@@ -112,13 +131,10 @@ pub event_waits : {b : Beginning} {old opened : Stage} {round : Round} → Comes
     → IsWaiting b old.session → IsWaiting b opened.session
 event_waits {b} {old} comes waits =
     let on = comes_same comes waits.stands.rest
-    (unsending b.wish b.films old.session.state waits.unbegun) in
+    (unsending b.wish b.start.films old.session.state waits.still.unbegun) in
     record {
       stands = stands_by (event_step waits.stands comes);
-      films_are = ap (λ (part : SessionState). part.films) on ∙ waits.films_are;
-      settings_are = ap (λ (part : SessionState). part.settings) on ∙ waits.settings_are;
-      source_is = ap (λ (part : SessionState). part.source) on ∙ waits.source_is;
-      unbegun = subst (IsUnbegun b.wish b.films) (sym (ap (λ (part : SessionState). part.state) on)) waits.unbegun;
+      still = still_as (ap ground_of on) (ap (λ (part : SessionState). part.state) on) waits.still;
     }
 
 -- a reply that goes out leaves a film that isn't sent as it is
@@ -128,20 +144,10 @@ unbegun_reply wish films (Playing setup play) is = absurd is
 unbegun_reply wish films (Stopping setup stop) is = absurd is
 unbegun_reply wish films _ is = is
 
-pub record IsWaitingStill (b : Beginning) (s : SessionState) : Type 0 where
-  pub films_are : s.films ≡ b.films
-  pub settings_are : s.settings ≡ b.settings
-  pub source_is : s.source ≡ b.source
-  pub unbegun : IsUnbegun b.wish b.films s.state
-
 replied_waits : {b : Beginning} (goes : Bool) (s : SessionState) → IsWaitingStill b s
     → IsWaitingStill b (if goes then sent_reply s else s)
-replied_waits {b} true s still = record {
-  films_are = still.films_are;
-  settings_are = still.settings_are;
-  source_is = still.source_is;
-  unbegun = unbegun_reply b.wish b.films s.state still.unbegun;
-}
+replied_waits {b} true s still =
+    record { ground = still.ground; unbegun = unbegun_reply b.wish b.start.films s.state still.unbegun }
 replied_waits false s still = still
 
 pub reply_same : (asking : SessionState) (ask : Ask) (outcome : Outcome) (new : SessionState) → ask ≡ Reply
@@ -156,24 +162,15 @@ reply_same asking ask outcome new is answered =
 setup_waits : {b : Beginning} {old asking : SessionState} {ask : Ask} → IsWaiting b old
     → SetupHeard old (film_url b.wish ++ codes "/video") (request_head (setup_parts b.wish)) ask asking
     → (ask ≡ Reply) × IsWaitingStill b asking
-setup_waits {b} {old} {asking} waits (Refused text reply is) = (
-  reply,
-  record {
-    films_are = ap (λ (s : SessionState). s.films) is ∙ waits.films_are;
-    settings_are = ap (λ (s : SessionState). s.settings) is ∙ waits.settings_are;
-    source_is = ap (λ (s : SessionState). s.source) is ∙ waits.source_is;
-    unbegun = subst (IsUnbegun b.wish b.films) (sym (ap (λ (s : SessionState). s.state) is)) waits.unbegun;
-  },
-)
-setup_waits {b} {old} {asking} waits (Settled setup text authority reply is asks names) =
-    let N : List Stored → Type 0 = λ films. Names films (film_url b.wish ++ codes "/video") authority setup.film in
-    let settled = settled_by b asks (subst N waits.films_are names) in (
+setup_waits waits (Refused text reply is) =
+    (reply, still_as (ap ground_of is) (ap (λ (s : SessionState). s.state) is) waits.still)
+setup_waits {b} waits (Settled setup text authority reply is asks names) =
+    let N : Ground → Type 0 = λ g. Names g.films (film_url b.wish ++ codes "/video") authority setup.film in
+    let settled = settled_by b asks (subst N waits.still.ground names) in (
       reply,
       record {
-        films_are = ap (λ (s : SessionState). s.films) is ∙ waits.films_are;
-        settings_are = ap (λ (s : SessionState). s.settings) is ∙ waits.settings_are;
-        source_is = ap (λ (s : SessionState). s.source) is ∙ waits.source_is;
-        unbegun = subst (IsUnbegun b.wish b.films) (sym (ap (λ (s : SessionState). s.state) is)) (refl, settled);
+        ground = ap ground_of is ∙ waits.still.ground;
+        unbegun = subst (IsUnbegun b.wish b.start.films) (sym (ap (λ (s : SessionState). s.state) is)) (refl, settled);
       },
     )
 
@@ -198,13 +195,9 @@ answered_waits {b} request is waits =
     let same = reply_same heard.asking heard.ask outcome replied.answered still.0 heard.answered in
     let after = replied_waits (can_reply replied.answered) replied.answered
     (subst (IsWaitingStill b) (sym same) still.1) in
-    let its = subst (λ (s : Stage). IsWaitingStill b s.session) (sym replied.new_is) after in
     record {
       stands = request_stands request waits.stands;
-      films_are = its.films_are;
-      settings_are = its.settings_are;
-      source_is = its.source_is;
-      unbegun = its.unbegun;
+      still = subst (λ (s : Stage). IsWaitingStill b s.session) (sym replied.new_is) after;
     }
   where
     open request use {outcome, replied}

@@ -1,38 +1,26 @@
 -- What a session replies to a SETUP that it accepts, to a PLAY that asks for a play, and to a
 -- TEARDOWN of its own.
-use Rattle.std.proofs.Common.{Ok, ◌≡◌, ◌⊎◌, ℕ, List, codes, Option, Some, None, refl, sym, ap, subst, ◌∙◌, inl, inr}
-use Rattle.film_frames.specs.declared.stored_films.Stored.{Stored}
-use Rattle.film_run.specs.declared.runs.Run.{Run}
+use Rattle.std.proofs.Common.{Ok, ◌≡◌, ◌⊎◌, ℕ, List, codes, Some, None, refl, sym, ap, subst, ◌∙◌, inl, inr}
 use Rattle.rtsp_text.specs.Fields.{header_value}
-use Rattle.rtsp_text.specs.Requests.{IsRequest}
-use Rattle.session.specs.declared.commands.Ask.{Ask}
-use Rattle.session.specs.declared.plans.Planned.{Planned}
-use Rattle.session.specs.declared.states.Awaited.TheVariants.{Nothing, Play}
 use Rattle.session.specs.declared.states.Prepared.{Prepared}
 use Rattle.film_streams.specs.declared.setups.Setup.{Setup}
 use Rattle.session.specs.declared.states.State.{State}
-use Rattle.session.specs.declared.states.State.TheVariants.{Ready, Playing}
-use Rattle.film_streams.specs.Films.{IsFilmAt, Names}
+use Rattle.session.specs.declared.states.State.TheVariants.{Playing}
+use Rattle.film_streams.specs.Films.{Names}
 use Rattle.session.specs.Methods.{IsSetUp, Ends, TearsDown, play_front}
 use Rattle.session_laws.specs.MethodLaws.{setup_in}
 use Rattle.session.specs.RefusalOrder.{IsOwnFilm, IsOwnSession}
 use Rattle.rtsp_methods.specs.RequiredOptions.{required_of}
 use Rattle.rtsp_replies.specs.Replies.{session_text, setup_text}
-use Rattle.session.specs.RequestSteps.{Hears}
 use Rattle.session.specs.RequestedPlans.{IsPlannedRun}
 use Rattle.session.specs.SessionStates.{SessionState, has_session_in}
 use Rattle.film_streams.specs.Setups.{AsksForSetup}
 use Rattle.rtsp_methods.specs.declared.methods.Method.TheVariants.{Teardown}
-use Rattle.session.proofs.InitialStateLemmas.{HeardMessage, heard_by}
+use Rattle.session.proofs.InitialStateLemmas.{HeardMessage}
 use Rattle.session_laws.proofs.RequestReadings.{TakenUp, taken_up}
 use Rattle.session_laws.proofs.SetupLemmas.{HeardCall, Refuses, Settles, call_read, setup_done, task_read}
-use Rattle.session_laws.proofs.PlayInReadyLemmas.{PlayStarted, play_started}
+use Rattle.session_laws.proofs.PlayInReadyLemmas.{AwaitsPlay, PlayStarted, play_started}
 use Rattle.session_laws.proofs.MethodLemmas.{its_film}
-
--- a message is a request of this URL, number and head
-pub record IsCall (message method url : List ℕ) (sequence : ℕ) (head : List ℕ) : Type 0 where
-  pub body : List ℕ
-  pub read : IsRequest message method url sequence head body
 
 -- ---- SETUP
 
@@ -50,88 +38,54 @@ settled_text : (c : HeardCall (codes "SETUP")) (setup : Setup)
     → c.h.new.text ≡ setup_text c.sequence setup.media setup.control c.h.old.source.ssrc c.h.old.id
 settled_text c setup is = ap (λ (s : SessionState). s.text) is.1
 
-pub setup_answered : (old : SessionState) (message url : List ℕ) (sequence : ℕ) (head : List ℕ) (ask : Ask)
-    (new : SessionState) → IsCall message (codes "SETUP") url sequence head → Hears old message ask new
-    → (new.state ≡ old.state) ⊎ IsSettledReply old url sequence head new
-setup_answered old message url sequence head ask new is hears =
-    let c : HeardCall (codes "SETUP") =
-    record { h = heard_by hears; url = url; sequence = sequence; head = head; body = is.body; read = is.read } in
-    elim (setup_done c) [
-      | Refuses text done ↦ inl (ap (λ (s : SessionState). s.state) done.1)
-      | Settles setup authority asks names done ↦ inr (record {
-        setup = setup;
-        authority = authority;
-        asks = asks;
-        names = names;
-        text = settled_text c setup done;
-      })
-    ]
+pub setup_answered : (c : HeardCall (codes "SETUP")) → (c.h.new.state ≡ c.h.old.state)
+    ⊎ IsSettledReply c.h.old c.url c.sequence c.head c.h.new
+setup_answered c = elim (setup_done c) [
+  | Refuses text done ↦ inl (ap (λ (s : SessionState). s.state) done.1)
+  | Settles setup authority asks names done ↦ inr (record {
+    setup = setup;
+    authority = authority;
+    asks = asks;
+    names = names;
+    text = settled_text c setup done;
+  })
+]
 
 -- ---- PLAY
 
--- the station is asked for a play, with the first part of its reply
-pub record IsPlayAnswered (old : SessionState) (url : List ℕ) (sequence : ℕ) (head : List ℕ) (new : SessionState)
-    : Type 0 where
-  pub setup : Setup
-  pub paused : Option Run
-  pub ready : old.state ≡ Ready setup paused
-  pub stored : Stored
-  pub at : IsFilmAt old.films setup.film stored
-  pub planned : Planned
-  pub planned_is : IsPlannedRun old stored setup paused (header_value head (codes "Range")) planned
-  pub authority : List ℕ
-  pub names : Names old.films url authority setup.film
-  pub session : IsOwnSession (has_session_in old.state) old.id (header_value head (codes "Session")) ⊥
-  pub text : new.text ≡ play_front old stored setup planned sequence authority
-  pub state : new.state ≡ old.state
-  pub heard : new.heard ≡ old.heard
-  pub films : new.films ≡ old.films
-  pub id : new.id ≡ old.id
+-- the station is asked for a play, with the first part of its reply, by the PLAY's own parts
+pub record IsPlayAnswered (c : HeardCall (codes "PLAY")) : Type 0 where
+  pub started : PlayStarted c.h
+  pub planned_is : IsPlannedRun c.h.old started.asks.stored started.play.setup started.play.paused
+      (header_value c.head (codes "Range")) started.planned
+  pub names : Names c.h.old.films c.url started.play.asked.authority.now started.play.setup.film
+  pub session : IsOwnSession (has_session_in c.h.old.state) c.h.old.id (header_value c.head (codes "Session")) ⊥
+  pub text : c.h.new.text ≡ play_front c.h.old started.asks.stored started.play.setup started.planned c.sequence
+      started.play.asked.authority.now
 
--- a PLAY that starts a play, by its own parts
-started_call : (c : HeardCall (codes "PLAY")) → PlayStarted c.h
-    → IsPlayAnswered c.h.old c.url c.sequence c.head c.h.new
-started_call c started =
+pub play_answered : {prepared : Prepared} (c : HeardCall (codes "PLAY")) → AwaitsPlay c.h prepared → IsPlayAnswered c
+play_answered c waits =
+    let started = play_started c.h waits in
+    let play = started.play in
+    let planned = started.planned in
     let old = c.h.old in
-    let stored = asks.stored in
+    let stored = started.asks.stored in
     let r = task_read c play.taken in
     let name = play.asked.authority.now in
     let own : play.asked.film ≡ play.setup.film =
     subst (λ (s : State). IsOwnFilm s play.asked.film) play.ready play.taken.judged.film.own in
     let text : c.h.new.text ≡ play_front old stored play.setup planned play.taken.request.sequence name =
-    ap (λ (s : SessionState). s.text) asks.state in
+    ap (λ (s : SessionState). s.text) started.asks.state in
     record {
-      setup = play.setup;
-      paused = play.paused;
-      ready = play.ready;
-      stored = stored;
-      at = asks.at;
-      planned = planned;
+      started = started;
       planned_is = subst (λ x. IsPlannedRun old stored play.setup play.paused (header_value x (codes "Range")) planned)
-          r.head_is planned_is;
-      authority = name;
+          r.head_is started.planned_is;
       names = subst (λ n. Names old.films c.url name n) own
           (subst (λ u. Names old.films u name play.asked.film) r.url_is play.taken.judged.film.named);
       session = subst (λ x. IsOwnSession (has_session_in old.state) old.id (header_value x (codes "Session")) ⊥)
           r.head_is play.taken.judged.talk.session;
       text = text ∙ ap (λ n. play_front old stored play.setup planned n name) r.sequence_is;
-      state = ap (λ (s : SessionState). s.state) asks.state;
-      heard = ap (λ (s : SessionState). s.heard) asks.state;
-      films = ap (λ (s : SessionState). s.films) asks.state;
-      id = ap (λ (s : SessionState). s.id) asks.state;
     }
-  where
-    open started use {play, planned, asks, planned_is}
-
-pub play_answered : (old : SessionState) (message url : List ℕ) (sequence : ℕ) (head : List ℕ) (ask : Ask)
-    (new : SessionState) (prepared : Prepared) → IsCall message (codes "PLAY") url sequence head
-    → old.awaited ≡ Nothing → new.awaited ≡ Play prepared → Hears old message ask new
-    → IsPlayAnswered old url sequence head new
-play_answered old message url sequence head ask new prepared is rest asks hears =
-    let h : HeardMessage = heard_by {old = old} {new = new} {message = message} {ask = ask} hears in
-    started_call
-    (record { h = h; url = url; sequence = sequence; head = head; body = is.body; read = is.read })
-    (play_started h {prepared = prepared} (record { rest = rest; asks = asks }))
 
 -- ---- TEARDOWN
 
@@ -163,9 +117,9 @@ tears_in h sequence (Playing setup play) same tears =
     (record { text = refl; films = refl; id = refl; setup = sym (ap setup_in same) })
 tears_in h sequence _ same tears = ends_alone h sequence tears
 
-torn_call : (c : HeardCall (codes "TEARDOWN")) → IsOwnTeardown c.h.old c.url c.head
+pub teardown_answered : (c : HeardCall (codes "TEARDOWN")) → IsOwnTeardown c.h.old c.url c.head
     → IsTornAnswered c.h.old c.sequence c.h.new
-torn_call c may =
+teardown_answered c may =
     let old = c.h.old in
     let request = (call_read c).request in
     let r = (call_read c).of in
@@ -188,10 +142,3 @@ torn_call c may =
     }) in
     subst (λ n. IsTornAnswered old n c.h.new) (up.alike.sequence ∙ r.sequence_is)
     (tears_in c.h up.other.sequence old.state refl up.does)
-
-pub teardown_answered : (old : SessionState) (message url : List ℕ) (sequence : ℕ) (head : List ℕ) (ask : Ask)
-    (new : SessionState) → IsCall message (codes "TEARDOWN") url sequence head → IsOwnTeardown old url head
-    → Hears old message ask new → IsTornAnswered old sequence new
-teardown_answered old message url sequence head ask new is may hears =
-    torn_call
-    (record { h = heard_by hears; url = url; sequence = sequence; head = head; body = is.body; read = is.read }) may

@@ -1,39 +1,16 @@
 -- A session asks the station for a play where it received a PLAY in Ready, and nowhere else.
-use Rattle.std.proofs.Common.{◌≡◌, ℕ, List, Option, codes, sym, ap, ◌∙◌}
-use Rattle.film_frames.specs.declared.stored_films.Stored.{Stored}
-use Rattle.film_run.specs.declared.runs.Run.{Run}
+use Rattle.std.proofs.Common.{◌≡◌, codes, sym, ap, ◌∙◌}
 use Rattle.rtsp_text.specs.Fields.{header_value}
-use Rattle.rtsp_text.specs.declared.requests.Request.{Request}
-use Rattle.session.specs.declared.commands.Ask.{Ask}
 use Rattle.session.specs.declared.plans.Planned.{Planned}
 use Rattle.session.specs.declared.states.Awaited.{Awaited}
 use Rattle.session.specs.declared.states.Awaited.TheVariants.{Nothing, Play}
 use Rattle.session.specs.declared.states.Prepared.{Prepared}
-use Rattle.film_streams.specs.declared.setups.Setup.{Setup}
-use Rattle.session.specs.declared.states.State.TheVariants.{Ready}
-use Rattle.session.specs.RequestSteps.{Hears}
-use Rattle.session.specs.RefusalOrder.{IsReadAs}
 use Rattle.session.specs.Methods.{prepared_of, AsksPlay}
 use Rattle.session.specs.RequestedPlans.{IsPlannedRun}
 use Rattle.session.specs.SessionStates.{SessionState}
-use Rattle.session.proofs.InitialStateLemmas.{HeardMessage, heard_by}
+use Rattle.session.proofs.InitialStateLemmas.{HeardMessage}
 use Rattle.session.proofs.RequestCaseAnalysis.{Answer, Replies, SetsUp, StartsPlay, HaltsPlay, StopsPlay, EndsSession}
 use Rattle.session.proofs.RequestCaseAnalysis.{TakesLook, SeeksOffer, ReadyPlay, answer_to}
-
--- the PLAY, with its run and its plan
-pub record IsPlayHeard (old : SessionState) (message : List ℕ) (prepared : Prepared) : Type 0 where
-  pub request : Request
-  pub is_request : IsReadAs message request
-  pub method : request.method.now ≡ codes "PLAY"
-  pub setup : Setup
-  pub paused : Option Run
-  pub ready : old.state ≡ Ready setup paused
-  pub stored : Stored
-  pub planned : Planned
-  pub planned_is : IsPlannedRun old stored setup paused
-      (header_value request.head.now (codes "Range")) planned
-  pub sequence : ℕ
-  pub prepared_is : prepared ≡ prepared_of old stored setup planned sequence
 
 -- the station is asked for a play
 pub record PlayStarted (h : HeardMessage) : Type 0 where
@@ -81,24 +58,18 @@ play_started h waits = started_by h waits (answer_to h)
 play_same : (one other : Prepared) → Play one ≡ Play other → one ≡ other
 play_same one other same = cc
 
-pub play_heard : (old : SessionState) (message : List ℕ) (ask : Ask) (new : SessionState) (prepared : Prepared)
-    → old.awaited ≡ Nothing → new.awaited ≡ Play prepared → Hears old message ask new
-    → IsPlayHeard old message prepared
-play_heard old message ask new prepared rest asks hears =
-    let h : HeardMessage = heard_by {old = old} {new = new} {message = message} {ask = ask} hears in
-    let started = play_started h (record { rest = rest; asks = asks }) in
-    let play = started.play in
-    let own = prepared_of old started.asks.stored play.setup started.planned play.taken.request.sequence in
+-- what it is asked for, by the PLAY
+pub record IsPlayHeard (h : HeardMessage) (prepared : Prepared) : Type 0 where
+  pub started : PlayStarted h
+  pub prepared_is : prepared ≡ prepared_of h.old started.asks.stored started.play.setup started.planned
+      started.play.taken.request.sequence
+
+pub play_heard : {prepared : Prepared} (h : HeardMessage) → AwaitsPlay h prepared → IsPlayHeard h prepared
+play_heard {prepared} h waits =
+    let started = play_started h waits in
+    let own = prepared_of h.old started.asks.stored started.play.setup started.planned
+    started.play.taken.request.sequence in
     record {
-      request = play.taken.request;
-      is_request = play.taken.is_request;
-      method = play.taken.judged.talk.spoken.named;
-      setup = play.setup;
-      paused = play.paused;
-      ready = play.ready;
-      stored = started.asks.stored;
-      planned = started.planned;
-      planned_is = started.planned_is;
-      sequence = play.taken.request.sequence;
-      prepared_is = play_same prepared own (sym asks ∙ ap (λ (s : SessionState). s.awaited) started.asks.state);
+      started = started;
+      prepared_is = play_same prepared own (sym waits.asks ∙ ap (λ (s : SessionState). s.awaited) started.asks.state);
     }
