@@ -73,10 +73,10 @@ play_range placed heard plan command =
 
 ask_range : {old asking new : SessionState} {outcome : Outcome} → RequestAnswer old asking outcome new
     → InEntry AsksInRange outcome
-ask_range (Admission {placed = placed} play entry answered) =
-    play_range placed play.base.heard play.prepared.plan entry.command
-ask_range (Refusal {placed = placed} play entry) =
-    play_range placed play.base.heard play.prepared.plan entry.command
+ask_range (Admission {base = base} {placed = placed} play entry answered) =
+    play_range placed base.heard play.prepared.plan entry.command
+ask_range (Refusal {base = base} {placed = placed} play entry) =
+    play_range placed base.heard play.prepared.plan entry.command
 ask_range (HaltMade halt entry) = halt_range entry
 ask_range (LookAnswer {placed = placed} command looked) =
     let none : asked_in placed.entry.command ≡ 0 = ap asked_in command in omega (arith, none)

@@ -30,8 +30,9 @@ use Rattle.film_streams.specs.declared.setups.Setup.{Setup}
 use Rattle.session.specs.declared.states.Prepared.{Prepared}
 use Rattle.conn.specs.EventSteps.{entries_in}
 use Rattle.connection_laws.specs.Plays.{booked_by, kept_among}
+use Rattle.session_laws.proofs.RunLemmas.{AskedPlay}
 use Rattle.connection_laws.proofs.RequestEffects.{RequestAnswer, Admission, Refusal, HaltMade, LookAnswer, at_play}
-use Rattle.connection_laws.proofs.RequestEffects.{PlayRequest, request_answer}
+use Rattle.connection_laws.proofs.RequestEffects.{request_answer}
 use Rattle.connection_laws.proofs.BookedPlays.{kept_more}
 use Rattle.conn.proofs.StationAnswers.{FinishesAs, NothingLeft, DoneHalted}
 use Rattle.connection_laws.proofs.Lists.{Each, each_append}
@@ -211,7 +212,7 @@ note_is : (setup : Setup) (prepared : Prepared) (place : ℕ) (admitted : Option
 note_is setup prepared place None later = refl
 note_is setup prepared place (Some booked) later = rw (later.keeps booked.keep)
 
-play_noted : (play : PlayRequest) (placed : PlacedEntry) → IsNoted (at_play play) (Entered placed)
+play_noted : {base : SessionState} (play : AskedPlay base) (placed : PlacedEntry) → IsNoted (at_play play) (Entered placed)
 play_noted play placed later =
     note_is play.setup play.prepared placed.place (play_admitted placed.entry.command placed.entry.answer) later
 

@@ -24,7 +24,8 @@ use Rattle.connection_laws.specs.Notes.{station_call}
 use Rattle.connection_laws.specs.Plays.{kept_by, kept_with}
 use Rattle.conn.proofs.StationAnswers.{IsHaltEntry, IsPlayEntry}
 use Rattle.connection_laws.proofs.RequestEffects.{RequestAnswer, OwnReply, SetupReply, Admission, Refusal, HaltMade}
-use Rattle.connection_laws.proofs.RequestEffects.{LookAnswer, PlayRequest, at_halt, at_play}
+use Rattle.connection_laws.proofs.RequestEffects.{LookAnswer, at_halt, at_play}
+use Rattle.session_laws.proofs.RunLemmas.{AskedPlay}
 
 -- the note of a play that is under way, by what comes later
 abbrev pub open_note : State → List StationCall → List PlayNote
@@ -140,14 +141,13 @@ halt_turn {placed = placed} s entry kept other =
 -- ---- a request
 
 -- the note of a play that an entry answers
-pub begun_note : {placed : PlacedEntry} {answer : Answer} (play : PlayRequest) (later : List StationCall)
+pub begun_note : {base : SessionState} {placed : PlacedEntry} {answer : Answer} (play : AskedPlay base)
+    (later : List StationCall)
     → IsPlayEntry (at_play play) play.prepared.plan placed answer
     → notes_of_calls (at_play play) (Entered placed) later
     ≡ noted_for play.setup play.prepared placed.place
-    (play_admitted (play_of play.base.heard play.prepared.plan) answer) later
+    (play_admitted (play_of base.heard play.prepared.plan) answer) later
 begun_note {placed} play later entry = rw (entry.command, entry.answer_is)
-  where
-    open play use {base, setup, prepared}
 
 -- by what was asked and answered
 pub answered_on : {old asking new : SessionState} {outcome : Outcome} → RequestAnswer old asking outcome new
@@ -155,8 +155,8 @@ pub answered_on : {old asking new : SessionState} {outcome : Outcome} → Reques
 answered_on {old} {asking} OwnReply = unasked_turn (note_part old) asking
 answered_on {asking = asking} (SetupReply old) =
     record { on = (unasked_turn (record { plays = old.plays; state = Init }) asking).on }
-answered_on {new = new} (Admission play entry answered) = record {
-  on = λ later. rw (begun_note play later entry, append-nil play.base.plays);
+answered_on {new = new} (Admission {base = base} play entry answered) = record {
+  on = λ later. rw (begun_note play later entry, append-nil base.plays);
 }
 answered_on {old} {asking} {outcome = outcome} (Refusal play entry) =
     still_turn (note_part old) asking outcome (λ later. begun_note play later entry)

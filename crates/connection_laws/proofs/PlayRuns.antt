@@ -9,21 +9,15 @@ use Rattle.std.proofs.lemmas.List.{append_assoc, append-nil}
 use Rattle.plan_cert.specs.PlanSlots.{total_bytes}
 use Rattle.film_frames.specs.declared.stored_films.Stored.{Stored}
 use Rattle.film_frames.specs.FramedRuns.{FramedRun, frames_before, octets_before}
-use Rattle.plan_cert.specs.declared.Segment.{Segment}
-use Rattle.early_start.specs.StartSearch.{Offers}
 use Rattle.film_run.specs.declared.runs.Run.{Run}
 use Rattle.rtp_pack.specs.declared.reports.Identity.{Identity}
 use Rattle.admission.specs.Makers.{PlacedEntry}
-use Rattle.session.specs.declared.commands.Ask.{Ask}
-use Rattle.session.specs.declared.commands.Ask.TheVariants.{Reply as AskReply, Play as AskPlay, Halt as AskHalt}
-use Rattle.session.specs.declared.commands.Ask.TheVariants.{Look as AskLook, Offer as AskOffer}
 use Rattle.session.specs.declared.states.AfterHalt.{AfterHalt}
 use Rattle.session.specs.declared.states.AfterHalt.TheVariants.{Done, Paused, Torn}
 use Rattle.session.specs.declared.states.Awaited.{Awaited}
-use Rattle.session.specs.declared.states.Awaited.TheVariants.{Nothing, Play, Halt, Look, Offer}
+use Rattle.session.specs.declared.states.Awaited.TheVariants.{Nothing, Play, Halt}
 use Rattle.film_streams.specs.declared.stream_numbers.Counts.{Counts}
 use Rattle.session.specs.declared.states.Play.{Play as Played}
-use Rattle.session.specs.declared.states.Prepared.{Prepared}
 use Rattle.film_streams.specs.declared.setups.Setup.{Setup}
 use Rattle.session.specs.declared.states.State.{State}
 use Rattle.session.specs.declared.states.State.TheVariants.{Init, Ready, Playing, Stopping}
@@ -37,20 +31,20 @@ use Rattle.session.specs.SessionStates.{SessionState}
 use Rattle.session.specs.SlotSteps.{after_slot, can_reply, due_state, is_between, sent_due, sent_reply}
 use Rattle.session.specs.SlotSteps.{sent_slot, stepped_in}
 use Rattle.session.specs.SlotTransitions.{after_stop}
-use Rattle.session_laws.proofs.RunLemmas.{IsLeftBy, IsNextRun, RunsAs, Replies, SetsUp, AsksPlay, Stops, AsksLook}
-use Rattle.session_laws.proofs.RunLemmas.{AsksOffer, one_film, run_goes_on, runs_as}
-use Rattle.conn.specs.InputSteps.{Outcome, Entered, SentPart, Stage, Unasked, IsAskAnswered}
+use Rattle.session_laws.proofs.RunLemmas.{AskedPlay, IsLeftBy, IsNextRun, one_film, run_goes_on}
+use Rattle.conn.specs.InputSteps.{Outcome, Entered, SentPart, Stage, Unasked}
 use Rattle.connection_laws.specs.Courses.{Course, asked_by, askings_of, course_plays}
 use Rattle.connection_laws.specs.Plays.{FilmPlay, StationRequest, Asks, kept_by, kept_in, kept_with, play_by}
 use Rattle.connection_laws.specs.Plays.{plays_of}
 use Rattle.connection_laws.specs.LookLimits.{course_looks, look_in, looks_in}
 use Rattle.connection_laws.specs.PlayRuns.{AreRunsInOrder, IsFirstRun, IsLaterRun, RunPlace, SendsNext, run_place}
 use Rattle.connection_laws.proofs.StationAnswers.{SlotTo, SlotSent, slot_to}
-use Rattle.connection_laws.proofs.RequestEffects.{IsStill, looked_still, no_entry, refused_still}
+use Rattle.connection_laws.proofs.RequestEffects.{IsStill, at_play, before_play, looked_still, no_entry, refused_still}
+use Rattle.connection_laws.proofs.RequestEffects.{Admission, HaltMade, JournalFull, LookAnswer, OfferAnswer, OwnReply}
+use Rattle.connection_laws.proofs.RequestEffects.{Refusal, RequestAnswer, SetupReply, request_answer}
 use Rattle.connection_laws.proofs.KeptParts.{reply_keeps, slot_keeps}
 use Rattle.connection_laws.proofs.CourseInduction.{Piece, AnsweredRequest, asking_of, begin_of}
-use Rattle.conn.proofs.StationAnswers.{AnswersAs, NoneAsked, PlayAdmitted, PlayOverflowed, PlayFull, PlayHalted}
-use Rattle.conn.proofs.StationAnswers.{LookMade, LookFull, OfferMade, answers_as, IsHaltEntry, IsPlayEntry}
+use Rattle.conn.proofs.StationAnswers.{IsHaltEntry, IsPlayEntry}
 use Rattle.conn.proofs.StationAnswers.{ComesAs, BytesCame, SlotCame}
 use Rattle.conn.specs.EventSteps.{Round}
 use Rattle.admission.specs.declared.entries.Answer.TheVariants.{Admitted}
@@ -322,63 +316,18 @@ module _ (words : List ℕ) where
       leads_then (moves (slot_looks old.session slot) (slot_moves to))
       (finishes (finish_by (slot_asks to stands.rest) refl finish))
 
--- a session that hears a request: no reply waits, and no TEARDOWN was answered
-record Hearing : Type 0 where
-  words : List ℕ
-  old : SessionState
-  replied : old.waits ≡ false
-  linked : old.torn ≡ false
+-- a session that hears a request: nothing is awaited, no reply waits, and no TEARDOWN was answered
+record Hearing (s : SessionState) : Type 0 where
+  rest : s.awaited ≡ Nothing
+  replied : s.waits ≡ false
+  linked : s.torn ≡ false
 
--- a play that a session asks for
-record AskedPlay (old : SessionState) : Type 0 where
-  stored : Stored
-  setup : Setup
-  paused : Option Run
-  prepared : Prepared
-  text : List ℕ
-  ready : old.state ≡ Ready setup paused
-  at : IsFilmAt old.films setup.film stored
-  next : IsNextRun old stored setup paused prepared.run prepared.counts
-  frames : prepared.frames ≡ sending_of stored.film old.source setup prepared.counts prepared.run
+-- a play that is asked for
+module _ (words : List ℕ) {base : SessionState} (asked : AskedPlay base) where
+  open asked use {stored, setup, paused, prepared, at, next, frames}
 
-abbrev asking_for : {old : SessionState} → AskedPlay old → SessionState
-asking_for {old} asked = record old { awaited = Play asked.prepared; text = asked.text }
-
-module _ (h : Hearing) where
-  open h use {words, old, replied, linked}
-
-  abbrev Answers : Outcome → SessionState → Ask → SessionState → Type 0
-  Answers outcome new ask asking = IsAskAnswered asking ask outcome new → AnswersAs asking ask outcome new
-      → Leads words old new (Asks asking.awaited outcome ∷ [])
-
-  -- a reply waits, and else all is as before
-  waiting : (tearing : Bool) (state : State) (kept : ℕ → ℕ) (last : Option RunPlace)
-      → IsLastIn words state (stream_of old) (flags_of old) kept last → IsLastIn words state (stream_of old)
-      (record { waits = true; tearing = tearing; torn = old.torn }) kept last
-  waiting tearing (Ready setup paused) kept last (inl torn) = absurd (true≢false (sym torn.1 ∙ linked))
-  waiting tearing (Ready setup paused) kept last (inr rest) = inr rest
-  waiting tearing (Stopping setup stop) kept last is = absurd (true≢false (sym is.0 ∙ replied))
-  waiting tearing _ kept last is = is
-
-  replies : (asking : SessionState) (outcome : Outcome) (new : SessionState) → asking.awaited ≡ Nothing
-      → asking.looks_left ≡ old.looks_left → Moves words old asking → Answers outcome new AskReply asking
-  replies asking outcome new rest looks move is NoneAsked =
-      still words (still_by (no_entry Unasked refl)) (looks ∙ none_asked old.looks_left asking.awaited rest) move
-
-  looks_at : (sequence : ℕ) (outcome : Outcome) (new : SessionState)
-      → Answers outcome new (AskLook old.heard) (record old { looks_left = old.looks_left - 1; awaited = Look sequence })
-  looks_at sequence outcome new is (LookMade looked) = still words (still_by (looked_still old.heard is.0)) refl (waiting old.tearing old.state)
-  looks_at sequence outcome new is LookFull = still words (still_by (no_entry _ refl)) refl (waiting old.tearing old.state)
-
-  offers_of : {plan : List Segment} {offers : Offers} (sequence : ℕ) (outcome : Outcome) (new : SessionState)
-      → Answers outcome new (AskOffer plan offers) (record old { awaited = Offer sequence })
-  offers_of sequence outcome new is OfferMade =
-      still words (still_by (no_entry _ refl)) (sym (minus_none old.looks_left)) (waiting old.tearing old.state)
-
-  -- ---- a play
-
-  first_identity : (setup : Setup) → IsFirstRun words (identity_of (source_of words) setup nothing_sent)
-  first_identity setup = record {
+  first_identity : IsFirstRun words (identity_of (source_of words) setup nothing_sent)
+  first_identity = record {
     ssrc = refl;
     sequence = sequence_begins (slice_index words 3);
     timestamp = refl;
@@ -386,184 +335,141 @@ module _ (h : Hearing) where
     octets = refl;
   }
 
-  later_identity : (last : RunPlace) (source : StreamSource) (setup : Setup) (counts : Counts)
-      → last.run.identity ≡ identity_of source setup counts
-      → IsLaterRun last (identity_of source setup (counts_after counts last.run last.sent))
-  later_identity last source setup counts is = record {
+  later_identity : (last : RunPlace) (counts : Counts) → last.run.identity ≡ identity_of base.source setup counts
+      → IsLaterRun last (identity_of base.source setup (counts_after counts last.run last.sent))
+  later_identity last counts is = record {
     channel = sym (ap (λ (i : Identity). i.channel) is);
     control = sym (ap (λ (i : Identity). i.control) is);
     ssrc = sym (ap (λ (i : Identity). i.ssrc) is);
     timestamp = sym (ap (λ (i : Identity). i.timestamp) is);
-    numbers = subst (λ i. GoesOn i (identity_of source setup (counts_after counts last.run last.sent))
+    numbers = subst (λ i. GoesOn i (identity_of base.source setup (counts_after counts last.run last.sent))
         (frames_before last.run last.sent) (octets_before last.run last.sent)) (sym is)
-        (run_goes_on source setup counts last.run last.sent);
+        (run_goes_on base.source setup counts last.run last.sent);
   }
 
   -- of a play: its run, as it is sent, and where it begins
-  abbrev Next : Stored → Setup → Option RunPlace → Counts → Run → Type 0
-  Next stored setup last counts run = (play : FilmPlay) → play.before ≡ run.sent
-      → SendsNext words last (sending_of stored.film old.source setup counts run) play
+  abbrev Next : Option RunPlace → Counts → Run → Type 0
+  Next last counts run = (play : FilmPlay) → play.before ≡ run.sent
+      → SendsNext words last (sending_of stored.film base.source setup counts run) play
 
-  new_next : (asked : AskedPlay old) (last : Option RunPlace) (run : Run) → run.sent ≡ 0
-      → IsFresh words (stream_of old) asked.setup last → Next asked.stored asked.setup last old.counts run
-  new_next asked None run sent fresh play before = (
-    before ∙ sent,
-    rw (fresh.1, fresh.0) (first_identity asked.setup),
-  )
-  new_next asked (Some last) run sent fresh play before = inr (
-    before ∙ sent,
-    rw fresh.counts (later_identity last old.source asked.setup fresh.before fresh.identity),
-  )
+  new_next : (last : Option RunPlace) (run : Run) → run.sent ≡ 0 → IsFresh words (stream_of base) setup last
+      → Next last base.counts run
+  new_next None run sent fresh play before = (before ∙ sent, rw (fresh.1, fresh.0) first_identity)
+  new_next (Some last) run sent fresh play before =
+      inr (before ∙ sent, rw fresh.counts (later_identity last fresh.before fresh.identity))
 
   -- of the film's own run so many bytes were sent
-  own_place : {run : Run} {sent : ℕ} {last : Option RunPlace} (asked : AskedPlay old)
-      → IsUnderWay (stream_of old) asked.setup run sent last
-      → last ≡ Some (run_place (sending_of asked.stored.film old.source asked.setup old.counts run) sent)
-  own_place {run} {sent} {last} asked way =
-      one_film old.films asked.setup.film way.stored (λ s. last ≡ Some (run_place
-      (sending_of s.film old.source asked.setup old.counts run) sent)) way.at way.place asked.stored asked.at
+  own_place : {run : Run} {sent : ℕ} {last : Option RunPlace} → IsUnderWay (stream_of base) setup run sent last
+      → last ≡ Some (run_place (sending_of stored.film base.source setup base.counts run) sent)
+  own_place {run} {sent} {last} way =
+      one_film base.films setup.film way.stored (λ s. last ≡ Some (run_place
+      (sending_of s.film base.source setup base.counts run) sent)) way.at way.place stored at
 
-  rest_next : (asked : AskedPlay old) (paused : Option Run) (last : Option RunPlace) (run : Run) → run.sent ≡ 0
-      → IsAtRest words paused (stream_of old) asked.setup last
-      → Next asked.stored asked.setup last (counts_before asked.stored.film old.source asked.setup old.counts paused) run
-  rest_next asked None last run sent rest play before = new_next asked last run sent rest play before
-  rest_next asked (Some paused) last run sent rest play before =
-      let sending : FramedRun = sending_of asked.stored.film old.source asked.setup old.counts paused in
-      rw (own_place asked rest) (inr (
-        before ∙ sent,
-        later_identity (run_place sending paused.sent) old.source asked.setup old.counts refl,
-      ))
+  rest_next : (paused : Option Run) (last : Option RunPlace) (run : Run) → run.sent ≡ 0
+      → IsAtRest words paused (stream_of base) setup last
+      → Next last (counts_before stored.film base.source setup base.counts paused) run
+  rest_next None last run sent rest play before = new_next last run sent rest play before
+  rest_next (Some paused) last run sent rest play before =
+      let sending : FramedRun = sending_of stored.film base.source setup base.counts paused in
+      rw (own_place rest) (inr (before ∙ sent, later_identity (run_place sending paused.sent) base.counts refl))
 
-  resumed_next : (asked : AskedPlay old) (last : Option RunPlace) (run : Run)
-      → IsUnderWay (stream_of old) asked.setup run run.sent last → Next asked.stored asked.setup last old.counts run
-  resumed_next asked last run rest play before =
-      let sending : FramedRun = sending_of asked.stored.film old.source asked.setup old.counts run in
-      subst (λ l. SendsNext words l sending play) (sym (own_place asked rest)) (inl (refl, before))
+  resumed_next : (last : Option RunPlace) (run : Run) → IsUnderWay (stream_of base) setup run run.sent last
+      → Next last base.counts run
+  resumed_next last run rest play before =
+      let sending : FramedRun = sending_of stored.film base.source setup base.counts run in
+      subst (λ l. SendsNext words l sending play) (sym (own_place rest)) (inl (refl, before))
 
-  next_run : (asked : AskedPlay old) (last : Option RunPlace)
-      → IsAtRest words asked.paused (stream_of old) asked.setup last
-      → IsNextRun old asked.stored asked.setup asked.paused asked.prepared.run asked.prepared.counts
-      → Next asked.stored asked.setup last asked.prepared.counts asked.prepared.run
-  next_run asked last rest (inl resumed) =
-      rw resumed.counts_are (resumed_next asked last asked.prepared.run
-      (subst (λ p. IsAtRest words p (stream_of old) asked.setup last) resumed.paused_is rest))
-  next_run asked last rest (inr begun) =
-      rw begun.counts_are (rest_next asked asked.paused last asked.prepared.run begun.none_sent rest)
+  next_run : (last : Option RunPlace) → IsAtRest words paused (stream_of base) setup last
+      → IsNextRun base stored setup paused prepared.run prepared.counts → Next last prepared.counts prepared.run
+  next_run last rest (inl resumed) =
+      rw resumed.counts_are (resumed_next last prepared.run
+      (subst (λ p. IsAtRest words p (stream_of base) setup last) resumed.paused_is rest))
+  next_run last rest (inr begun) =
+      rw begun.counts_are (rest_next paused last prepared.run begun.none_sent rest)
+
+  -- no TEARDOWN was answered
+  at_rest : (last : Option RunPlace) → base.torn ≡ false
+      → ((base.tearing ≡ true) × (base.torn ≡ true)) ⊎ IsAtRest words paused (stream_of base) setup last
+      → IsAtRest words paused (stream_of base) setup last
+  at_rest last linked (inl torn) = absurd (true≢false (sym torn.1 ∙ linked))
+  at_rest last linked (inr rest) = rest
 
   -- it is admitted
-  at_rest : (asked : AskedPlay old) (kept : ℕ → ℕ) (last : Option RunPlace) → IsLast words old kept last
-      → IsAtRest words asked.paused (stream_of old) asked.setup last
-  at_rest asked kept last was =
-      elim (subst (λ st. IsLastIn words st (stream_of old) (flags_of old) kept last) asked.ready was) [
-        | inl torn ↦ absurd (true≢false (sym torn.1 ∙ linked))
-        | inr rest ↦ rest
-      ]
-
-  admitted : {placed : PlacedEntry} {start : ℕ} (asked : AskedPlay old)
-      → IsPlayEntry (asking_for asked) asked.prepared.plan placed (Admitted start)
-      → Leads words old (after_admission (asking_for asked) placed.place start)
-      (Asks (Play asked.prepared) (Entered placed) ∷ [])
-  admitted {placed} {start} asked entry = record {
+  admitted : {placed : PlacedEntry} {start : ℕ} → base.torn ≡ false
+      → IsPlayEntry (at_play asked) prepared.plan placed (Admitted start)
+      → Leads words (before_play asked) (after_admission (at_play asked) placed.place start)
+      (Asks (Play prepared) (Entered placed) ∷ [])
+  admitted {start = start} linked entry = record {
     on = λ later follows last was.
         let play : FilmPlay = play_by prepared start later in
-        let under : IsLast words (after_admission (asking_for asked) placed.place start) (kept_in later)
-        (Some (run_place prepared.frames (play.before + play.keep))) =
-        rw ready (record {
-          stored = stored;
-          at = at;
-          place = ap (λ run. Some (run_place run (play.before + play.keep))) frames;
-        }) in
+        let place : RunPlace = run_place prepared.frames (play.before + play.keep) in
         rw entry.answer_is (
           prepared.frames,
           (
             refl,
             subst (λ run. SendsNext words last run play) (sym frames)
-                (next_run asked last (at_rest asked
-                (kept_in (Asks (Play prepared) (Entered placed) ∷ later)) last was)
-                next play refl),
-            follows (Some (run_place prepared.frames (play.before + play.keep))) under,
+                (next_run last (at_rest last linked was) next play refl),
+            follows (Some place) (record {
+              stored = stored;
+              at = at;
+              place = ap (λ run. Some (run_place run (play.before + play.keep))) frames;
+            }),
           ),
         );
-    looks = sym (minus_none old.looks_left);
+    looks = sym (minus_none base.looks_left);
   }
-    where
-      open asked use {stored, prepared, ready, at, next, frames}
-
-  -- or refused
-  plays : (asked : AskedPlay old) (outcome : Outcome) (new : SessionState)
-      → Answers outcome new (AskPlay asked.prepared.plan) (asking_for asked)
-  plays asked outcome new is (PlayAdmitted entry answered) = admitted asked entry
-  plays asked outcome new is (PlayOverflowed entry) =
-      still words (still_by (refused_still entry refl)) (sym (minus_none old.looks_left)) (waiting old.tearing old.state)
-  plays asked outcome new is (PlayFull more) =
-      still words (still_by (no_entry _ refl)) (sym (minus_none old.looks_left)) (waiting old.tearing old.state)
-
-  -- ---- by what a message comes to
-
-  set_up : (new : SessionState) (setup : Setup) → old.state ≡ Init → new.state ≡ Ready setup None
-      → stream_of new ≡ stream_of old → Moves words old new
-  set_up new setup init state stream kept last was =
-      let first : (last ≡ None) × (old.counts ≡ nothing_sent) × (old.source ≡ source_of words) =
-      subst (λ st. IsLastIn words st (stream_of old) (flags_of old) kept last) init was in
-      rw (state, stream, first.0) (inr (first.1, first.2))
-
-  halt_asked : {asking : SessionState} {keep : ℕ} (outcome : Outcome) (new : SessionState)
-      → ((placed : PlacedEntry) → IsHaltEntry keep placed
-      → Leads words old (after_halt asking placed.place) (Asks asking.awaited (Entered placed) ∷ []))
-      → Answers outcome new (AskHalt keep) asking
-  halt_asked outcome new leads is (PlayHalted {placed = placed} entry) = leads placed entry
-
-  message_leads : {ask : Ask} {asking : SessionState} (outcome : Outcome) (new : SessionState) → old.awaited ≡ Nothing
-      → RunsAs old ask asking → Answers outcome new ask asking
-  message_leads outcome new rest (Replies text tearing command is) =
-      rw (command, is)
-      (replies (record old { text = text; waits = true; tearing = tearing }) outcome new rest refl (waiting tearing old.state))
-  message_leads outcome new rest (SetsUp text setup init command is) =
-      let asked : SessionState = record old { text = text; waits = true; state = Ready setup None } in
-      rw (command, is) (replies asked outcome new rest refl (set_up asked setup init refl refl))
-  message_leads outcome new rest (AsksPlay stored setup paused prepared text ready at next frames command is) =
-      rw (command, is) (plays (record {
-        stored = stored;
-        setup = setup;
-        paused = paused;
-        prepared = prepared;
-        text = text;
-        ready = ready;
-        at = at;
-        next = next;
-        frames = frames;
-      }) outcome new)
-  message_leads outcome new rest (Stops setup play keep next text playing left command is) =
-      let stopping : Played = record play { pacer = record play.pacer { keep = keep } } in
-      let same : Moves words old (record old { state = Playing setup stopping; awaited = Halt keep next; text = text }) =
-      λ kept last was. subst (λ st. IsLastIn words st (stream_of old) (flags_of old) kept last) playing was in
-      rw (command, is) (halt_asked outcome new (λ placed entry. leads_then words (moves words refl same) (halts words (record {
-        s = record old { text = text };
-        setup = setup;
-        play = stopping;
-        keep = keep;
-        left = left;
-      }) entry)))
-  message_leads outcome new rest (AsksLook sequence command is) = rw (command, is) (looks_at sequence outcome new)
-  message_leads outcome new rest (AsksOffer plan offers sequence command is) = rw (command, is) (offers_of sequence outcome new)
 
 module _ (words : List ℕ) where
-  -- ---- elements and events
+  -- ---- requests
+
+  -- a reply waits, and else all is as before
+  waiting : {s : SessionState} → Hearing s → (tearing : Bool) (state : State) (kept : ℕ → ℕ) (last : Option RunPlace)
+      → IsLastIn words state (stream_of s) (flags_of s) kept last → IsLastIn words state (stream_of s)
+      (record { waits = true; tearing = tearing; torn = s.torn }) kept last
+  waiting h tearing (Ready setup paused) kept last (inl torn) = absurd (true≢false (sym torn.1 ∙ h.linked))
+  waiting h tearing (Ready setup paused) kept last (inr rest) = inr rest
+  waiting h tearing (Stopping setup stop) kept last is = absurd (true≢false (sym is.0 ∙ h.replied))
+  waiting h tearing _ kept last is = is
+
+  request_leads : {old asking new : SessionState} {outcome : Outcome} → RequestAnswer old asking outcome new
+      → Hearing old → Leads words old new (Asks asking.awaited outcome ∷ [])
+  request_leads (OwnReply {old = old} {tearing = tearing}) h =
+      still words (still_by (no_entry Unasked refl)) (none_asked old.looks_left old.awaited h.rest)
+      (waiting h tearing old.state)
+  request_leads (SetupReply old) h =
+      still words (still_by (no_entry Unasked refl)) (none_asked old.looks_left old.awaited h.rest)
+      (λ kept last was. rw was.0 (inr (was.1, was.2)))
+  request_leads (Admission play entry answered) h = admitted words play h.linked entry
+  request_leads (Refusal {base = base} play entry) h =
+      still words (still_by (refused_still entry refl)) (sym (minus_none base.looks_left))
+      (waiting h base.tearing (Ready play.setup play.paused))
+  request_leads (HaltMade {base = base} halt entry) h =
+      let stop : Stopped halt.next = record {
+        s = record base { text = halt.text };
+        setup = halt.setup;
+        play = record halt.play { pacer = record halt.play.pacer { keep = halt.keep } };
+        keep = halt.keep;
+        left = halt.left;
+      } in
+      leads_then words (moves words refl (λ kept last was. was)) (halts words stop entry)
+  request_leads (LookAnswer {old = old} command looked) h =
+      still words (still_by (looked_still old.heard command)) refl (waiting h old.tearing old.state)
+  request_leads (JournalFull {old = old} looks) h =
+      still words (still_by (no_entry _ refl)) looks (waiting h old.tearing old.state)
+  request_leads (OfferAnswer {old = old}) h =
+      still words (still_by (no_entry _ refl)) (sym (minus_none old.looks_left)) (waiting h old.tearing old.state)
 
   answered_leads : {old new : Stage} (request : AnsweredRequest old new) → Stands old.session
       → Leads words old.session new.session (asking_of request ∷ [])
-  answered_leads {old} request stands =
-      let heard = replied.heard in
-      let made : List StationRequest = Asks heard.asking.awaited outcome ∷ [] in
-      let one : Leads words old.session replied.answered made =
-      message_leads (record { words = words; old = old.session; replied = replied.next.replied; linked = replied.next.torn })
-      outcome replied.answered stands.rest (runs_as old.session message heard.ask heard.asking stands.rest heard.hears) heard.answered
-      (answers_as heard.ask outcome heard.answered) in
+  answered_leads request stands =
+      let next = replied.next in
+      let one = request_leads (request_answer replied.heard)
+      (record { rest = stands.rest; replied = next.replied; linked = next.torn }) in
       rw replied.new_is (leads_then words one (moves words
       (reply_keeps (λ (s : SessionState). s.looks_left) (λ s. refl) (can_reply replied.answered) replied.answered)
       (reply_moves words (can_reply replied.answered) replied.answered)))
     where
-      open request use {message, outcome, replied}
+      open request use {replied}
 
   abbrev LeadsOn : SessionState → Piece → SessionState → Type 0
   LeadsOn old piece new = Leads words old new piece.askings

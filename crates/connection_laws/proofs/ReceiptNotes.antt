@@ -52,7 +52,7 @@ logs_answer {old} (Admission {placed = p} play entry answered) = logs_entry old 
 logs_answer {old} (Refusal {placed = p} play entry) = logs_entry old p entry.answer_is
 logs_answer {old} (HaltMade {placed = p} halt entry) = logs_entry old p entry.answer_is
 logs_answer {old} (LookAnswer {placed = p} command looked) = logs_entry old p looked
-logs_answer {old} JournalFull = (refl, sym (append-nil old.offers))
+logs_answer {old} (JournalFull looks) = (refl, sym (append-nil old.offers))
 logs_answer {old} OfferAnswer = (sym (append-nil old.receipts), refl)
 logs_answer {old} _ = logs_none old old refl
 

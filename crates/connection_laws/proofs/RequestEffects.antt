@@ -1,10 +1,9 @@
 -- What a request asks and how it is answered, case by case, and what that makes of a session: what is sent of a film,
 -- and the play that begins or ends.
-use Rattle.std.proofs.Common.{◌≡◌, ℕ, Bool, true, List, Option, None, refl, subst, ◌<◌, ◌^◌, if◌then◌else◌, [], ◌∷◌}
-use Rattle.std.proofs.Common.{false, true≢false, sym, ap, ◌∙◌}
+use Rattle.std.proofs.Common.{◌≡◌, ℕ, Bool, true, List, None, refl, subst, ◌<◌, ◌^◌, if◌then◌else◌, [], ◌∷◌}
+use Rattle.std.proofs.Common.{false, true≢false, sym, ap, ◌∙◌, ◌-◌, arith}
 use Rattle.admission.specs.Makers.{PlacedEntry}
 use Rattle.early_start.specs.StartSearch.{Offers}
-use Rattle.film_run.specs.declared.runs.Run.{Run}
 use Rattle.film_streams.specs.declared.setups.Setup.{Setup}
 use Rattle.pacer.specs.PacerStates.{next_boundary, IsPacerState, PacerState, new_pacer_state}
 use Rattle.plan_cert.specs.declared.Segment.{Segment}
@@ -21,7 +20,9 @@ use Rattle.session.specs.RequestSteps.{after_admission, after_full, after_halt, 
 use Rattle.session.specs.RequestSteps.{is_answered}
 use Rattle.session.specs.SessionStates.{SessionState}
 use Rattle.session_records.specs.declared.notes.OfferNote.{OfferNote}
-use Rattle.session_laws.proofs.RequestShapes.{HearsAs, Replies, SetsUp, AsksPlay, Stops, AsksLook, AsksOffer, hears_as}
+use Rattle.session_laws.proofs.RunLemmas.{RunsAs, Replies, SetsUp, AsksPlay, Stops, AsksLook, AsksOffer, runs_as}
+use Rattle.session_laws.proofs.RunLemmas.{AskedHalt, AskedPlay}
+use Rattle.connection_laws.specs.LookLimits.{look_in}
 use Rattle.conn.specs.InputSteps.{HasHeard, IsAskAnswered, IsPlayAnswered, Outcome, Unasked, Entered, WasFull, Offered, entry_in}
 use Rattle.conn.proofs.StationAnswers.{AnswersAs, NoneAsked, PlayAdmitted, PlayOverflowed, PlayFull, PlayHalted}
 use Rattle.conn.proofs.StationAnswers.{LookMade, LookFull, OfferMade, IsPlayEntry, IsHaltEntry, answers_as}
@@ -39,35 +40,18 @@ use Rattle.connection_laws.specs.Plays.{StationRequest, plays_admitted, plays_be
 use Rattle.connection_laws.specs.Plays.{play_by}
 
 -- a session that is Ready asks for a play
-pub record PlayRequest : Type 0 where
-  pub base : SessionState
-  pub setup : Setup
-  pub paused : Option Run
-  pub prepared : Prepared
-  pub text : List ℕ
+abbrev pub before_play : {base : SessionState} → AskedPlay base → SessionState
+before_play {base} play = record base { state = Ready play.setup play.paused }
 
-abbrev pub before_play : PlayRequest → SessionState
-before_play play = record play.base { state = Ready play.setup play.paused }
-
-abbrev pub at_play : PlayRequest → SessionState
+abbrev pub at_play : {base : SessionState} → AskedPlay base → SessionState
 at_play play = record (before_play play) { awaited = Play play.prepared; text = play.text }
 
 -- a session that plays asks for a halt at the next boundary
-pub record HaltRequest : Type 0 where
-  pub base : SessionState
-  pub setup : Setup
-  pub play : Played
-  pub keep : ℕ
-  pub next : AfterHalt
-  pub text : List ℕ
-  pub told : is_answered next ≡ true
-  pub keep_is : keep ≡ next_boundary play.pacer
+abbrev pub before_halt : {base : SessionState} → AskedHalt base → SessionState
+before_halt {base} halt = record base { state = Playing halt.setup halt.play }
 
-abbrev pub before_halt : HaltRequest → SessionState
-before_halt halt = record halt.base { state = Playing halt.setup halt.play }
-
-abbrev pub at_halt : HaltRequest → SessionState
-at_halt halt = record halt.base {
+abbrev pub at_halt : {base : SessionState} → AskedHalt base → SessionState
+at_halt {base} halt = record base {
   state = Playing halt.setup (record halt.play { pacer = record halt.play.pacer { keep = halt.keep } });
   awaited = Halt halt.keep halt.next;
   text = halt.text;
@@ -86,23 +70,23 @@ pub data RequestAnswer : SessionState → SessionState → Outcome → SessionSt
       → RequestAnswer (record old { state = Init })
       (record old { text = text; waits = true; state = Ready setup None }) Unasked
       (record old { text = text; waits = true; state = Ready setup None })
-  Admission : {placed : PlacedEntry} {start : ℕ} (play : PlayRequest)
+  Admission : {base : SessionState} {placed : PlacedEntry} {start : ℕ} (play : AskedPlay base)
       → IsPlayEntry (at_play play) play.prepared.plan placed (Admitted start)
       → IsPlayAnswered (at_play play) placed (Admitted start) (after_admission (at_play play) placed.place start)
       → RequestAnswer (before_play play) (at_play play) (Entered placed)
       (after_admission (at_play play) placed.place start)
-  Refusal : {placed : PlacedEntry} {slot booked asked : ℕ} (play : PlayRequest)
+  Refusal : {base : SessionState} {placed : PlacedEntry} {slot booked asked : ℕ} (play : AskedPlay base)
       → IsPlayEntry (at_play play) play.prepared.plan placed (Overflow slot booked asked)
       → RequestAnswer (before_play play) (at_play play) (Entered placed)
       (after_overflow (at_play play) placed.place slot booked asked)
-  HaltMade : {placed : PlacedEntry} (halt : HaltRequest) → IsHaltEntry halt.keep placed
+  HaltMade : {base : SessionState} {placed : PlacedEntry} (halt : AskedHalt base) → IsHaltEntry halt.keep placed
       → RequestAnswer (before_halt halt) (at_halt halt) (Entered placed) (after_halt (at_halt halt) placed.place)
-  LookAnswer : {old : SessionState} {looks sequence now at booked : ℕ} {placed : PlacedEntry}
+  LookAnswer : {old : SessionState} {sequence now at booked : ℕ} {placed : PlacedEntry}
       → placed.entry.command ≡ look_at old.heard → placed.entry.answer ≡ Looked now at booked
-      → RequestAnswer old (asking_for old (Look sequence) old.text looks) (Entered placed)
-      (after_look (asking_for old (Look sequence) old.text looks) placed.place now at booked)
+      → RequestAnswer old (asking_for old (Look sequence) old.text (old.looks_left - 1)) (Entered placed)
+      (after_look (asking_for old (Look sequence) old.text (old.looks_left - 1)) placed.place now at booked)
   JournalFull : {old : SessionState} {awaited : Awaited} {text : List ℕ} {looks more entries live : ℕ}
-      → RequestAnswer old (asking_for old awaited text looks) (WasFull more entries live)
+      → looks ≡ old.looks_left - look_in awaited → RequestAnswer old (asking_for old awaited text looks) (WasFull more entries live)
       (after_full (asking_for old awaited text looks) entries live)
   OfferAnswer : {old : SessionState} {sequence at_slot : ℕ} {note : OfferNote}
       → RequestAnswer old (asking_for old (Offer sequence) old.text old.looks_left) (Offered at_slot note)
@@ -122,64 +106,48 @@ setup_answer : (old : SessionState) (text : List ℕ) (setup : Setup) (outcome :
     (record old { text = text; waits = true; state = Ready setup None })
 setup_answer old text setup outcome new is NoneAsked = SetupReply old
 
-play_answer : (play : PlayRequest) (outcome : Outcome) (new : SessionState)
+play_answer : {base : SessionState} (play : AskedPlay base) (outcome : Outcome) (new : SessionState)
     → Answers outcome new (before_play play) (AskPlay play.prepared.plan) (at_play play)
 play_answer play outcome new is (PlayAdmitted entry answered) = Admission play entry answered
 play_answer play outcome new is (PlayOverflowed entry) = Refusal play entry
-play_answer play outcome new is (PlayFull more) = JournalFull {old = before_play play}
+play_answer play outcome new is (PlayFull more) = JournalFull {old = before_play play} (omega arith)
 
-halt_answer : (halt : HaltRequest) (outcome : Outcome) (new : SessionState)
+halt_answer : {base : SessionState} (halt : AskedHalt base) (outcome : Outcome) (new : SessionState)
     → Answers outcome new (before_halt halt) (AskHalt halt.keep) (at_halt halt)
 halt_answer halt outcome new is (PlayHalted entry) = HaltMade halt entry
 
-look_answer : (old : SessionState) (looks sequence : ℕ) (outcome : Outcome) (new : SessionState)
-    → Answers outcome new old (AskLook old.heard) (asking_for old (Look sequence) old.text looks)
-look_answer old looks sequence outcome new is (LookMade looked) = LookAnswer is.0 looked
-look_answer old looks sequence outcome new is LookFull = JournalFull
+look_answer : (old : SessionState) (sequence : ℕ) (outcome : Outcome) (new : SessionState)
+    → Answers outcome new old (AskLook old.heard) (asking_for old (Look sequence) old.text (old.looks_left - 1))
+look_answer old sequence outcome new is (LookMade looked) = LookAnswer is.0 looked
+look_answer old sequence outcome new is LookFull = JournalFull refl
 
 offer_answer : {plan : List Segment} {offers : Offers} (old : SessionState) (sequence : ℕ) (outcome : Outcome)
     (new : SessionState)
     → Answers outcome new old (AskOffer plan offers) (asking_for old (Offer sequence) old.text old.looks_left)
 offer_answer old sequence outcome new is OfferMade = OfferAnswer
 
-answer_of : {old asking new : SessionState} {ask : Ask} {outcome : Outcome} → HearsAs old ask asking
+answer_of : {old asking new : SessionState} {ask : Ask} {outcome : Outcome} → RunsAs old ask asking
     → Answers outcome new old ask asking
 answer_of {old} {new = new} {outcome = o} (Replies text tearing ask_is is) =
     rw (ask_is, is) (own_answer old text tearing o new)
 answer_of {old} {new = new} {outcome = o} (SetsUp text setup init ask_is is) =
     rw (ask_is, is) (subst (λ st. Answers o new (record old { state = st }) AskReply
     (record old { text = text; waits = true; state = Ready setup None })) (sym init) (setup_answer old text setup o new))
-answer_of {old} {new = new} {outcome = o} (AsksPlay setup paused prepared text ready ask_is is) =
-    rw (ask_is, is) (subst (λ st. Answers o new (record old { state = st }) (AskPlay prepared.plan)
-    (record old { state = st; awaited = Play prepared; text = text })) (sym ready) (play_answer (record {
-      base = old;
-      setup = setup;
-      paused = paused;
-      prepared = prepared;
-      text = text;
-    }) o new))
-answer_of {old} {new = new} {outcome = o} (Stops setup play keep next text playing told keep_is ask_is is) =
-    let halt : HaltRequest = record {
-      base = old;
-      setup = setup;
-      play = play;
-      keep = keep;
-      next = next;
-      text = text;
-      told = told;
-      keep_is = keep_is;
-    } in
-    rw (ask_is, is) (subst (λ st. Answers o new (record old { state = st }) (AskHalt keep) (at_halt halt))
-    (sym playing) (halt_answer halt o new))
-answer_of {old} {new = new} {outcome = o} (AsksLook looks sequence ask_is is) =
-    rw (ask_is, is) (look_answer old looks sequence o new)
+answer_of {old} {new = new} {outcome = o} (AsksPlay play ask_is is) =
+    rw (ask_is, is) (subst (λ st. Answers o new (record old { state = st }) (AskPlay play.prepared.plan)
+    (record old { state = st; awaited = Play play.prepared; text = play.text })) (sym play.ready) (play_answer play o new))
+answer_of {old} {new = new} {outcome = o} (Stops halt ask_is is) =
+    rw (ask_is, is) (subst (λ st. Answers o new (record old { state = st }) (AskHalt halt.keep) (at_halt halt))
+    (sym halt.playing) (halt_answer halt o new))
+answer_of {old} {new = new} {outcome = o} (AsksLook sequence ask_is is) =
+    rw (ask_is, is) (look_answer old sequence o new)
 answer_of {old} {new = new} {outcome = o} (AsksOffer plan offers sequence ask_is is) =
     rw (ask_is, is) (offer_answer old sequence o new)
 
 pub request_answer : {old new : SessionState} {message : List ℕ} {outcome : Outcome}
     (heard : HasHeard old message outcome new) → RequestAnswer old heard.asking outcome new
-request_answer {old} {message = message} {outcome} heard =
-    answer_of (hears_as old message heard.ask heard.asking heard.hears) heard.answered
+request_answer {outcome = outcome} heard =
+    answer_of (runs_as heard.hears) heard.answered
     (answers_as heard.ask outcome heard.answered)
 
 -- what of a film is being sent: nothing, a play, or the rest of one that was halted
@@ -287,7 +255,7 @@ pub begun_is : {old new : SessionState} {asked : Awaited} {outcome : Outcome} (b
 begun_is begins askings = rw (begins.outcome_is, begins.asked_is, begins.answer)
 
 -- a halt that is answered leaves the rest of the play
-ends_turn : {placed : PlacedEntry} (halt : HaltRequest) → IsHaltEntry halt.keep placed
+ends_turn : {base : SessionState} {placed : PlacedEntry} (halt : AskedHalt base) → IsHaltEntry halt.keep placed
     → TurnsAs (before_halt halt) (Halt halt.keep halt.next) (Entered placed) (after_halt (at_halt halt) placed.place)
 ends_turn {placed} halt entry =
     Ends (record {
@@ -342,9 +310,9 @@ answered_after heard rest = by-answer (request_answer heard) rest
         → old.awaited ≡ Nothing → IsAfter old new
     by-answer OwnReply rest = record { heard = refl; awaited = rest; waits = refl }
     by-answer (SetupReply old) rest = record { heard = refl; awaited = rest; waits = refl }
-    by-answer (HaltMade halt entry) rest = record {
+    by-answer (HaltMade {base = base} halt entry) rest = record {
       heard = refl;
       awaited = refl;
-      waits = ap (λ b. if b then true else halt.base.waits) halt.told;
+      waits = ap (λ b. if b then true else base.waits) halt.told;
     }
     by-answer _ rest = record { heard = refl; awaited = refl; waits = refl }

@@ -71,8 +71,8 @@ use Rattle.session.proofs.RequestCaseAnalysis.{ToFault, ToRefused, ToDeclined, T
 use Rattle.session.proofs.RequestCaseAnalysis.{ToEmpty, OwnCause, NoSetup, NoPlan, NoMemory as LacksMemory, NoSession}
 use Rattle.session.proofs.RequestCaseAnalysis.{NotInPlaying, NoParameter, TakenTask, answer_to, reply_of}
 use Rattle.session_laws.proofs.PlayInReadyLemmas.{PlayStarted}
-use Rattle.session_laws.proofs.RequestShapes.{AsksLook, AsksOffer, AsksPlay as AsksForPlay, HearsAs, Replies, SetsUp}
-use Rattle.session_laws.proofs.RequestShapes.{Stops, hears_as}
+use Rattle.session_laws.proofs.RunLemmas.{AsksLook, AsksOffer, AsksPlay as AsksForPlay, Replies, RunsAs, SetsUp}
+use Rattle.session_laws.proofs.RunLemmas.{Stops, runs_as}
 use Rattle.session_laws.proofs.ReplyContentLemmas.{authority_of, few_ms}
 use Rattle.rtsp_replies.proofs.ReplyMessages.{public_whole, session_whole, plain_whole, parameters_whole, AreSmall}
 use Rattle.rtsp_replies.proofs.ReplyMessages.{setup_whole, name_printed, describe_whole, IsRepeated, repeats_nothing}
@@ -400,16 +400,14 @@ stays_named named films id = record {
   id_is = id ∙ named.id_is;
 }
 
-as_named : {old new : SessionState} {ask : Ask} → HasValidIds old → HearsAs old ask new → HasValidIds new
+as_named : {old new : SessionState} {ask : Ask} → HasValidIds old → RunsAs old ask new → HasValidIds new
 as_named named (Replies text tearing ask_is is) = subst HasValidIds (sym is) (stays_named named refl refl)
 as_named named (SetsUp text setup init ask_is is) = subst HasValidIds (sym is) (stays_named named refl refl)
-as_named named (AsksForPlay setup paused prepared text ready ask_is is) =
-    subst HasValidIds (sym is) (stays_named named refl refl)
-as_named named (Stops setup play keep next text playing told keep_is ask_is is) =
-    subst HasValidIds (sym is) (stays_named named refl refl)
-as_named named (AsksLook looks sequence ask_is is) = subst HasValidIds (sym is) (stays_named named refl refl)
+as_named named (AsksForPlay play ask_is is) = subst HasValidIds (sym is) (stays_named named refl refl)
+as_named named (Stops halt ask_is is) = subst HasValidIds (sym is) (stays_named named refl refl)
+as_named named (AsksLook sequence ask_is is) = subst HasValidIds (sym is) (stays_named named refl refl)
 as_named named (AsksOffer plan offers sequence ask_is is) = subst HasValidIds (sym is) (stays_named named refl refl)
 
 pub keeps_named : (old new : SessionState) (message : List ℕ) (ask : Ask) → Hears old message ask new → HasValidIds old
     → HasValidIds new
-keeps_named old new message ask hears named = as_named named (hears_as old message ask new hears)
+keeps_named old new message ask hears named = as_named named (runs_as hears)

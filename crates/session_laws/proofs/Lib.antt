@@ -1,6 +1,5 @@
 mod RtpNumberLemmas
 mod StateMachineLemmas
-pub mod RequestShapes
 pub mod RunLemmas
 mod RequestReadings
 mod PlanUniqueness

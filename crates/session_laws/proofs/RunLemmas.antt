@@ -16,7 +16,7 @@ use Rattle.session.specs.declared.play_requests.PlayRequest.{PlayRequest}
 use Rattle.session.specs.declared.play_requests.PlayRequest.TheVariants.{Resumed, New}
 use Rattle.session.specs.declared.states.AfterHalt.{AfterHalt}
 use Rattle.session.specs.declared.states.AfterHalt.TheVariants.{Paused, Torn}
-use Rattle.session.specs.declared.states.Awaited.TheVariants.{Nothing, Play, Halt, Look, Offer}
+use Rattle.session.specs.declared.states.Awaited.TheVariants.{Play, Halt, Look, Offer}
 use Rattle.film_streams.specs.declared.stream_numbers.Counts.{Counts}
 use Rattle.session.specs.declared.states.Play.{Play as Played}
 use Rattle.session.specs.declared.states.Prepared.{Prepared}
@@ -27,7 +27,8 @@ use Rattle.film_streams.specs.Films.{IsFilmAt, OfFilm}
 use Rattle.film_streams.specs.StreamNumbers.{counts_after, identity_of}
 use Rattle.session.specs.Laws.{GoesOn}
 use Rattle.session.specs.Methods.{prepared_of}
-use Rattle.session.specs.RequestSteps.{Hears}
+use Rattle.pacer.specs.PacerStates.{next_boundary}
+use Rattle.session.specs.RequestSteps.{Hears, is_answered}
 use Rattle.session.specs.SessionStates.{SessionState}
 use Rattle.session.proofs.InitialStateLemmas.{HeardMessage, heard_by}
 use Rattle.session.proofs.RequestCaseAnalysis.{Answer, Replies as RepliesAlone, SetsUp as SettlesSetup, StartsPlay}
@@ -77,22 +78,42 @@ wanted_run old stored setup paused (At time) to (New run) is =
 
 -- ---- a message, as far as runs go by it
 
+-- a play that is asked for in Ready
+pub record AskedPlay (old : SessionState) : Type 0 where
+  pub stored : Stored
+  pub setup : Setup
+  pub paused : Option Run
+  pub prepared : Prepared
+  pub text : List ℕ
+  pub ready : old.state ≡ Ready setup paused
+  pub at : IsFilmAt old.films setup.film stored
+  pub next : IsNextRun old stored setup paused prepared.run prepared.counts
+  pub frames : prepared.frames ≡ sending_of stored.film old.source setup prepared.counts prepared.run
+
+-- a halt that is asked for in Playing, at the next boundary
+pub record AskedHalt (old : SessionState) : Type 0 where
+  pub setup : Setup
+  pub play : Played
+  pub keep : ℕ
+  pub next : AfterHalt
+  pub text : List ℕ
+  pub playing : old.state ≡ Playing setup play
+  pub told : is_answered next ≡ true
+  pub keep_is : keep ≡ next_boundary play.pacer
+  pub left : IsLeftBy play.run keep next
+
 pub data RunsAs (old : SessionState) (ask : Ask) (new : SessionState) : Type 0 where
   Replies : (text : List ℕ) (tearing : Bool) → ask ≡ AskReply
       → new ≡ record old { text = text; waits = true; tearing = tearing } → RunsAs old ask new
   SetsUp : (text : List ℕ) (setup : Setup) → old.state ≡ Init → ask ≡ AskReply
       → new ≡ record old { text = text; waits = true; state = Ready setup None } → RunsAs old ask new
-  AsksPlay : (stored : Stored) (setup : Setup) (paused : Option Run) (prepared : Prepared) (text : List ℕ)
-      → old.state ≡ Ready setup paused → IsFilmAt old.films setup.film stored
-      → IsNextRun old stored setup paused prepared.run prepared.counts
-      → prepared.frames ≡ sending_of stored.film old.source setup prepared.counts prepared.run
-      → ask ≡ AskPlay prepared.plan → new ≡ record old { awaited = Play prepared; text = text } → RunsAs old ask new
-  Stops : (setup : Setup) (play : Played) (keep : ℕ) (next : AfterHalt) (text : List ℕ)
-      → old.state ≡ Playing setup play → IsLeftBy play.run keep next → ask ≡ AskHalt keep
+  AsksPlay : (play : AskedPlay old) → ask ≡ AskPlay play.prepared.plan
+      → new ≡ record old { awaited = Play play.prepared; text = play.text } → RunsAs old ask new
+  Stops : (halt : AskedHalt old) → ask ≡ AskHalt halt.keep
       → new ≡ record old {
-        state = Playing setup (record play { pacer = record play.pacer { keep = keep } });
-        awaited = Halt keep next;
-        text = text;
+        state = Playing halt.setup (record halt.play { pacer = record halt.play.pacer { keep = halt.keep } });
+        awaited = Halt halt.keep halt.next;
+        text = halt.text;
       }
       → RunsAs old ask new
   AsksLook : (sequence : ℕ) → ask ≡ AskLook old.heard
@@ -104,28 +125,55 @@ runs_by : (h : HeardMessage) → Answer h → RunsAs h.old h.ask h.new
 runs_by h (RepliesAlone reply is) = Replies _ h.old.tearing is.0 is.1
 runs_by h (SettlesSetup film taken setup asks is) = SetsUp _ setup (settled_init taken) is.0 is.1
 runs_by h (StartsPlay play planned asks planned_is) =
-    AsksPlay asks.stored play.setup play.paused
-    (prepared_of h.old asks.stored play.setup planned play.taken.request.sequence) _ play.ready planned_is.at
-    (subst (λ x. IsNextRun h.old asks.stored play.setup play.paused x planned.counts) (sym planned_is.run_is)
-    (subst (λ c. IsNextRun h.old asks.stored play.setup play.paused (run_of planned_is.wanted) c)
-    (sym planned_is.counts_is) (wanted_run h.old asks.stored play.setup play.paused planned_is.asked.span.from
-    planned_is.asked.span.to planned_is.wanted planned_is.asked.is_wanted))) refl asks.command asks.state
+    let next = wanted_run h.old asks.stored play.setup play.paused planned_is.asked.span.from planned_is.asked.span.to
+    planned_is.wanted planned_is.asked.is_wanted in
+    AsksPlay (record {
+      stored = asks.stored;
+      setup = play.setup;
+      paused = play.paused;
+      prepared = prepared_of h.old asks.stored play.setup planned play.taken.request.sequence;
+      text = _;
+      ready = play.ready;
+      at = planned_is.at;
+      next = subst (λ x. IsNextRun h.old asks.stored play.setup play.paused x planned.counts) (sym planned_is.run_is)
+          (subst (IsNextRun h.old asks.stored play.setup play.paused (run_of planned_is.wanted)) (sym planned_is.counts_is) next);
+      frames = refl;
+    }) asks.command asks.state
 runs_by h (HaltsPlay taken hand is) =
-    Stops hand.setup hand.play is.asks.keep (Paused is.left) _ hand.playing (record {
-      first = is.left_is.first_is;
-      end = is.left_is.end_is;
-      sent = is.left_is.sent_is ∙ ap (λ k. hand.play.run.sent + k) (sym is.asks.keep_is);
+    Stops (record {
+      setup = hand.setup;
+      play = hand.play;
+      keep = is.asks.keep;
+      next = Paused is.left;
+      text = _;
+      playing = hand.playing;
+      told = refl;
+      keep_is = is.asks.keep_is;
+      left = record {
+        first = is.left_is.first_is;
+        end = is.left_is.end_is;
+        sent = is.left_is.sent_is ∙ ap (λ k. hand.play.run.sent + k) (sym is.asks.keep_is);
+      };
     }) is.asks.command is.asks.state
 runs_by h (StopsPlay taken hand is) =
-    Stops hand.setup hand.play is.keep Torn _ hand.playing tt is.command is.state
+    Stops (record {
+      setup = hand.setup;
+      play = hand.play;
+      keep = is.keep;
+      next = Torn;
+      text = _;
+      playing = hand.playing;
+      told = refl;
+      keep_is = is.keep_is;
+      left = tt;
+    }) is.command is.state
 runs_by h (EndsSession taken is) = Replies _ true is.0 is.1
 runs_by h (TakesLook taken look) = AsksLook taken.request.sequence look.command look.state
 runs_by h (SeeksOffer offer planned is asks) =
     AsksOffer planned.plan asks.offers offer.taken.request.sequence asks.command asks.state
 
-pub runs_as : (old : SessionState) (message : List ℕ) (ask : Ask) (new : SessionState) → old.awaited ≡ Nothing
-    → Hears old message ask new → RunsAs old ask new
-runs_as old message ask new rest hears =
+pub runs_as : {old new : SessionState} {message : List ℕ} {ask : Ask} → Hears old message ask new → RunsAs old ask new
+runs_as hears =
     runs_by (heard_by hears) (answer_to (heard_by hears))
 
 -- ---- numbers and films
