@@ -1,11 +1,8 @@
 -- Each reply to a client's SETUP, PLAY and TEARDOWN is a complete message.
 use Rattle.std.specs.Prelude.{⊤}
-use Rattle.std.proofs.Common.{◌≡◌, ℕ, ◌<◌, ◌≤◌, ◌^◌, ◌⊎◌, true, nat_lt, nat_le, List, [], ◌++◌, ◌&&◌, ◌==◌, not}
-use Rattle.std.proofs.Common.{refl, get_or, codes, decimal, string_bytes, length, sym, ap, subst, ◌∙◌, arith, inl, inr}
-use Rattle.std.specs.List.{list_all}
-use Rattle.std.proofs.lemmas.Bool.{and_parts}
-use Rattle.std.proofs.lemmas.Bool.Decides.{nat_tests}
-use Rattle.rtsp_replies.proofs.ReplyMessages.{short-decimal}
+use Rattle.std.proofs.Common.{◌≡◌, ℕ, ◌<◌, ◌≤◌, ◌^◌, ◌⊎◌, List, [], ◌++◌}
+use Rattle.std.proofs.Common.{refl, codes, decimal, string_bytes, length, sym, ap, subst, ◌∙◌, arith, inl, inr}
+use Rattle.rtsp_replies.proofs.ReplyMessages.{short-decimal, name_printed}
 use Rattle.std.proofs.lemmas.List.{length-append}
 use Rattle.film_frames.specs.declared.stored_films.Stored.{Stored}
 use Rattle.admission.specs.declared.entries.Answer.TheVariants.{Admitted}
@@ -18,7 +15,6 @@ use Rattle.rtsp_client.proofs.Texts.{put-long}
 use Rattle.rtsp_text.specs.Requests.{IsRequest}
 use Rattle.rtsp_text.specs.RequestTexts.{request_head}
 use Rattle.rtsp_text.proofs.MessageUniqueness.{request_once}
-use Rattle.vod_base.specs.Names.{good_name, is_name_byte}
 use Rattle.session.specs.declared.commands.Ask.{Ask}
 use Rattle.session.specs.declared.commands.Ask.TheVariants.{Reply as AskReply, Halt as AskHalt}
 use Rattle.session_laws.specs.EndLaws.{HaltsPlay}
@@ -138,15 +134,6 @@ teardown_own b {old} request is =
 
 -- ---- the requests leave room for what replies repeat of them
 
-name_short : (name : List ℕ) → good_name name ≡ true → length name ≤ 64
-name_short name good =
-    let all = and_parts (nat_lt 0 (length name) && nat_le (length name) 64 && not (get_or name 0 0 == 46))
-    (list_all is_name_byte name) good in
-    let fits : nat_le (length name) 64 ≡ true =
-    (and_parts (nat_lt 0 (length name)) (nat_le (length name) 64)
-    (and_parts (nat_lt 0 (length name) && nat_le (length name) 64) (not (get_or name 0 0 == 46)) all.0).0).1 in
-    grind (arith, nat_tests)
-
 url_short : (b : Beginning) → length (film_url b.wish) ≤ 102
 url_short b =
     let name = string_bytes b.wish.name in
@@ -154,7 +141,7 @@ url_short b =
       arith,
       length-append (codes "rtsp://127.0.0.1:") (decimal b.wish.port ++ (codes "/" ++ name)),
       length-append (decimal b.wish.port) (codes "/" ++ name),
-      name_short name b.wished.name,
+      (name_printed name b.wished.name).short,
       short-decimal b.wish.port (omega (arith, b.port)),
     )
 

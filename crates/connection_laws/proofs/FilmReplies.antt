@@ -141,24 +141,24 @@ film_answer {b} {h} {start = start} play few =
 
 pub play_begun : {b : Beginning} {old new : SessionState} {message : List ℕ} {outcome : Outcome} → IsWaiting b old
     → HasValidIds old → (heard : HasHeard old message outcome new) → message ≡ play_text b.wish b.session
-    → (begins : Begins old heard.asking.awaited outcome new) → IsMessage new.text → IsPlayBegun b begins.start old new
+    → (begins : Begins old heard.asking.awaited outcome new) → IsMessage new.text → IsPlayBegun b begins.admitted.start old new
 play_begun {b} {old} {new} {outcome = outcome} waits valid heard is begins whole =
     let asking = heard.asking in
     let h : HeardMessage = heard_by heard.hears in
     let asked = play_asked b h waits begins.asked_is is in
     let ready = asked.started.play.ready in
     let is_new = asked.started.asks.state in
-    let admitted = admitted_from begins.answer (answers_as heard.ask (Entered begins.placed)
+    let admitted = admitted_from begins.admitted.answer (answers_as heard.ask (Entered begins.placed)
     (subst (λ o. IsAskAnswered asking heard.ask o new) begins.outcome_is heard.answered)) in
     let state : setup_in new.state ≡ Some asked.started.play.setup =
     ap (λ (s : SessionState). setup_in s.state) admitted.new_is
-    ∙ ap₂ (λ s a. setup_in (admitted_in s a begins.placed.place begins.start))
+    ∙ ap₂ (λ s a. setup_in (admitted_in s a begins.placed.place begins.admitted.start))
     (ap (λ (s : SessionState). s.state) is_new ∙ ready) begins.asked_is in
     let same : IsSameSetup old new = record {
       names = answered_names asking heard.ask outcome new heard.answered ∙ ap names_in is_new;
       setup = state ∙ sym (ap setup_in ready);
     } in
-    let play : IsPlayAnswered b h new begins.start = record {
+    let play : IsPlayAnswered b h new begins.admitted.start = record {
       waits = waits;
       valid = valid;
       asked = asked;

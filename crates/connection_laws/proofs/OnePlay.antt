@@ -164,9 +164,9 @@ module _ {b : Beginning} {out : Outlook} (taken : Taken b out) where
   PlayBegins = Begins old.session heard.asking.awaited outcome replied.answered
 
   begun_same : IsPlayTaken → (begins : PlayBegins)
-      → IsPlayBegun out (play_by begins.prepared begins.start later.askings) later.askings
+      → IsPlayBegun out (play_by begins.prepared begins.admitted.start later.askings) later.askings
   begun_same play begins =
-      let all : play_by begins.prepared begins.start later.askings ∷ plays_of later.askings ≡ out.play ∷ out.others =
+      let all : play_by begins.prepared begins.admitted.start later.askings ∷ plays_of later.askings ≡ out.play ∷ out.others =
       sym (ap (λ l. l ++ plays_of later.askings) (begun_is begins later.askings)) ∙ play.plays in
       record { same = cc; rest = cc }
 
@@ -176,7 +176,7 @@ module _ {b : Beginning} {out : Outlook} (taken : Taken b out) where
       let begun = begun_same play begins in
       let hears = play_heard (heard_by heard.hears) (record { rest = play.waits.stands.rest; asks = begins.asked_is }) in
       let late : old.session.heard < out.play.start =
-      subst (λ (p : FilmPlay). old.session.heard < p.start) begun.same begins.later in
+      subst (λ (p : FilmPlay). old.session.heard < p.start) begun.same begins.admitted.later in
       record {
         wished = subst (IsWished b) begun.same (wished_play play.waits play.message_is hears refl refl refl);
         alone = sym begun.rest ∙ play.none;
@@ -209,10 +209,10 @@ module _ {b : Beginning} {out : Outlook} (taken : Taken b out) where
   play_walk is =
       let play = play_first is in
       let begins = turn_begins play.0 (turns_as heard) in
-      let admitted = admitted_from begins.answer (answers_as heard.ask (Entered begins.placed)
+      let admitted = admitted_from begins.admitted.answer (answers_as heard.ask (Entered begins.placed)
       (subst (λ o. IsAskAnswered heard.asking heard.ask o replied.answered) begins.outcome_is heard.answered)) in
       let whole = admitted.whole (replies_whole old.session message heard.ask heard.asking is.named
-      (play_room b play.0.message_is) heard.hears) begins.small in
+      (play_room b play.0.message_is) heard.hears) begins.admitted.small in
       let begun = subst (λ (p : FilmPlay). IsPlayBegunAt b p.start old.session replied.answered)
       (begun_same play.0 begins).same (play_begun_at is.waits is.named heard play.0.message_is begins whole) in
       let own : IsNamed b new.session = rw replied.new_is (named_still (replied_setup replied.answered) begun.own) in

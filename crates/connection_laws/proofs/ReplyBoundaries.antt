@@ -2,7 +2,7 @@
 -- boundary from what was due when its request was processed.
 use Rattle.connection_laws.proofs.WaitingReplies.{Fits, GoesTo, IsHeld, Stand, after_slot, at_here, due_far, due_going}
 use Rattle.connection_laws.proofs.WaitingReplies.{due_here, goes_same, held_here, parts_in, slot_at, point, Point}
-use Rattle.connection_laws.proofs.WaitingReplies.{pending_then, PlaySlot, slot_held, over_at}
+use Rattle.connection_laws.proofs.WaitingReplies.{pending_then, piece_then, PlaySlot, slot_held, over_at}
 use Rattle.std.proofs.Common.{◌≡◌, ℕ, ◌+◌, ◌-◌, ◌<◌, ◌≤◌, ◌++◌, if◌then◌else◌, Bool, true, false, min, List, ◌∷◌}
 use Rattle.std.proofs.Common.{Option, Some, None, length, refl, ap, sym, ◌∙◌, subst, inl, arith, []}
 use Rattle.conn.proofs.ReplyPlacement.{boundary_here}
@@ -26,14 +26,12 @@ use Rattle.connection_laws.specs.Plays.{due_of, kept_in, kept_with, play_by, pla
 use Rattle.connection_laws.specs.Replies.{placed_text}
 use Rattle.connection_laws.proofs.JoinedFilms.{IsOnTime, IsSound, play_with, through_time, IsAtLast}
 use Rattle.connection_laws.proofs.TextPlaces.{AreLater, StandAt, from_lower, later_lower, none_due, text_at, AreSent}
-use Rattle.connection_laws.proofs.TextPlaces.{ToCome, part_then}
+use Rattle.connection_laws.proofs.TextPlaces.{NextText, ToCome, part_then}
 use Rattle.connection_laws.proofs.Slots.{ended_at, ending_cases, going_cases, waits_after}
 use Rattle.conn.proofs.PlayProgress.{parts_of, state_after_slot}
 use Rattle.connection_laws.proofs.RequestEffects.{Ends, Ending, Going, Idle, IsStill, Sends, Starts, Stays}
 use Rattle.connection_laws.proofs.RequestEffects.{TurnsAs, begun_is, pacing_for, sends_in}
 use Rattle.connection_laws.proofs.CourseInduction.{asked_piece, Piece, parts_piece, no_piece}
-use Rattle.film_streams.specs.declared.setups.Setup.{Setup}
-use Rattle.session.specs.declared.states.Stop.{Stop}
 
 -- ---- a request is answered
 
@@ -77,7 +75,7 @@ turn_goes {old} (Stays same still) = record {
 turn_goes {old} (Starts begins) = record {
   later = omega arith;
   rest = λ askings come on fits.
-      let p : PacerState = pacing_for begins.prepared begins.start in
+      let p : PacerState = pacing_for begins.prepared begins.admitted.start in
       let there : Fits (point (Going p) old.heard (Some old.heard)) askings come =
       subst (λ s. Fits (point s old.heard (Some old.heard)) askings come) begins.sends fits in
       let made = begun_is begins askings in
@@ -85,8 +83,8 @@ turn_goes {old} (Starts begins) = record {
       (omega arith) begins.pacing.begins in
       rw begins.idle (record {
         from = (omega arith, there.from);
-        later = rw made (record { starts = (begins.later, there.later.starts); begins = inl (omega arith, starts) });
-        stand = rw made (subst (λ plan. AreSent (record (play_by begins.prepared begins.start askings) {
+        later = rw made (record { starts = (begins.admitted.later, there.later.starts); begins = inl (omega arith, starts) });
+        stand = rw made (subst (λ plan. AreSent (record (play_by begins.prepared begins.admitted.start askings) {
           plan = plan;
           keep = kept_in askings (total_bytes plan);
         } ∷ plays_of askings) (record come { slots = old.heard ∷ come.slots }))
@@ -115,10 +113,20 @@ kept_due : (p : PacerState) (heard keep : ℕ) → IsSound (Going p) true heard 
 kept_due p heard keep sound holds =
     let here = due_here p heard sound.0 in due_going p heard keep sound.0.pacing sound.1 (omega (arith, here, holds))
 
+-- where a reply goes out, nothing else changes of what is to come
+reply_goes : {sends after : Sends} {heard : ℕ} {text : List ℕ}
+    → ((askings : List StationRequest) (come : ToCome) → heard ≤ come.end → Fits (point after heard None) askings come
+    → Stand sends askings (pending_then (Some heard) (part_then (Text text) come)))
+    → GoesTo (point sends heard (Some heard)) (point after heard None) (parts_piece (Text text ∷ []))
+reply_goes stand = record {
+  later = omega arith;
+  rest = λ askings come on fits. record { from = fits.from; later = fits.later; stand = stand askings come on fits };
+}
+
 -- before any film is due
 idle_reply : {heard : ℕ} {askings : List StationRequest} {come : ToCome} (text : List ℕ)
     → Fits (point Idle heard None) askings come
-    → Fits (point Idle heard (Some heard)) askings (part_then (Text text) come)
+    → Stand Idle askings (pending_then (Some heard) (part_then (Text text) come))
 idle_reply {heard} {askings} {come} text fits =
     let none : all_due heard (plays_of askings) ≡ 0 = none_due heard (plays_of askings) fits.later.starts in
     let sent : IsSentAt come.end (plays_of askings) heard (placed_text 0 text) = record {
@@ -129,11 +137,22 @@ idle_reply {heard} {askings} {come} text fits =
       };
       reached = omega arith;
     } in
-    record {
-      from = fits.from;
-      later = fits.later;
-      stand = record { texts = (sent, fits.stand.texts); film = fits.stand.film };
-    }
+    record { texts = (sent, fits.stand.texts); film = fits.stand.film }
+
+-- at a boundary of the play in hand
+abbrev text_here : {p : PacerState} {heard keep : ℕ} {after : Sends} {askings : List StationRequest} {come : ToCome}
+    (text : List ℕ) → IsOnTime p heard → stands_at_boundary p ≡ true
+    → due_of heard (play_with p keep) ≡ min (first_slots p.plan (heard + 1 - p.start)) p.keep → heard ≤ come.end
+    → Fits (point after heard None) askings come → NextText p keep (plays_of askings) come.end
+text_here {p} {heard} {come = come} text on stands is ends fits = record {
+  slot = heard;
+  text = text;
+  due = min (first_slots p.plan (heard + 1 - p.start)) p.keep;
+  at = at_here p heard on stands;
+  is = is;
+  after = fits.later.starts;
+  far = due_far p heard come.end on ends;
+}
 
 -- where a reply goes, and what of it is held up then
 pub record Replying (state : State) (goes : Bool) (heard : ℕ) (text : List ℕ) : Type 0 where
@@ -144,34 +163,6 @@ pub record Replying (state : State) (goes : Bool) (heard : ℕ) (text : List ℕ
       (point (sends_in (if goes then after_stop state else state)) heard after)
       (parts_piece (if goes then Text text ∷ [] else []))
 
--- at the end of a play that was halted
-ended_replying : (setup : Setup) (stop : Stop) (heard : ℕ) (text : List ℕ) → IsSound (Ending stop.pacer) true heard
-    → is_between (Stopping setup stop) ≡ true → Replying (Stopping setup stop) true heard text
-ended_replying setup stop heard text sound is =
-    let p : PacerState = stop.pacer in
-    let ended = ended_at sound.0 sound.2 (boundary_here p sound.0.pacing is) in
-    record {
-      after = None;
-      sound = tt;
-      held = refl;
-      goes_on = record {
-        later = omega arith;
-        rest = λ askings come on fits. record {
-          from = fits.from;
-          later = fits.later;
-          stand = text_at (record {
-            slot = heard;
-            text = text;
-            due = min (first_slots p.plan (heard + 1 - p.start)) p.keep;
-            at = at_here p heard sound.0 is;
-            is = refl;
-            after = fits.later.starts;
-            far = due_far p heard come.end sound.0 on;
-          }) (over_at (record { p = p; keep = p.keep; on = sound.0; sent = ended }) on fits);
-        };
-      };
-    }
-
 pub replying : (state : State) (goes : Bool) (heard : ℕ) (text : List ℕ) → IsSound (sends_in state) true heard
     → is_between state ≡ goes → Replying state goes heard text
 replying (Playing setup play) true heard text sound is =
@@ -180,24 +171,19 @@ replying (Playing setup play) true heard text sound is =
       after = None;
       sound = sound;
       held = refl;
-      goes_on = record {
-        later = omega arith;
-        rest = λ askings come on fits. record {
-          from = fits.from;
-          later = fits.later;
-          stand = text_at (record {
-            slot = heard;
-            text = text;
-            due = min (first_slots p.plan (heard + 1 - p.start)) p.keep;
-            at = at_here p heard sound.0 is;
-            is = kept_due p heard (kept_in askings (total_bytes p.plan)) sound fits.stand.holds;
-            after = fits.later.starts;
-            far = due_far p heard come.end sound.0 on;
-          }) fits.stand;
-        };
-      };
+      goes_on = reply_goes (λ askings come on fits. text_at (text_here text sound.0 is
+          (kept_due p heard (kept_in askings (total_bytes p.plan)) sound fits.stand.holds) on fits) fits.stand);
     }
-replying (Stopping setup stop) true heard text sound is = ended_replying setup stop heard text sound is
+replying (Stopping setup stop) true heard text sound is =
+    let p : PacerState = stop.pacer in
+    let ended = ended_at sound.0 sound.2 (boundary_here p sound.0.pacing is) in
+    record {
+      after = None;
+      sound = tt;
+      held = refl;
+      goes_on = reply_goes (λ askings come on fits. text_at (text_here text sound.0 is refl on fits)
+          (over_at (record { p = p; keep = p.keep; on = sound.0; sent = ended }) on fits));
+    }
 replying (Playing setup play) false heard text sound is = record {
   after = Some heard;
   sound = sound;
@@ -215,7 +201,7 @@ replying _ true heard text sound is = record {
   after = None;
   sound = tt;
   held = refl;
-  goes_on = record { later = omega arith; rest = λ askings come on fits. idle_reply text fits };
+  goes_on = reply_goes (λ askings come on fits. idle_reply text fits);
 }
 
 -- ---- a slot
@@ -239,18 +225,30 @@ pub record SlotMoves {state : State} {waits : Bool} (start : SlotStart state wai
       (point (sends_in (state_after_slot waits state start.slot)) start.slot after)
       (parts_piece (parts_of waits state start.text start.slot))
 
+-- a later slot changes nothing else of what is to come
+slot_goes : {waits between : Bool} {pending : Option ℕ} {sends after : Sends} (s : PlaySlot waits between pending)
+    → ((askings : List StationRequest) (come : ToCome) → s.slot ≤ come.end
+    → Fits (point after s.slot (after_slot between pending)) askings come
+    → Stand sends askings (pending_then pending (piece_then (parts_piece (parts_in waits between s.p s.slot s.text)) come)))
+    → GoesTo (point sends s.heard pending) (point after s.slot (after_slot between pending))
+    (parts_piece (parts_in waits between s.p s.slot s.text))
+slot_goes s stand = record {
+  later = omega (arith, s.later);
+  rest = λ askings come on fits. record {
+    from = from_lower s.heard s.slot come.slots (omega (arith, s.later)) fits.from;
+    later = later_lower s.heard s.slot (plays_of askings) (omega (arith, s.later)) fits.later;
+    stand = stand askings come on fits;
+  };
+}
+
 -- a play goes on
 going_goes : {waits between : Bool} {pending : Option ℕ} (s : PlaySlot waits between pending)
     → s.p.keep ≡ total_bytes s.p.plan
     → GoesTo (point (Going s.p) s.heard pending)
     (point (Going (sent_through s.slot s.p)) s.slot (after_slot between pending))
     (parts_piece (parts_in waits between s.p s.slot s.text))
-going_goes s whole = record {
-  later = omega (arith, s.later);
-  rest = λ askings come on fits. record {
-    from = from_lower s.heard s.slot come.slots (omega (arith, s.later)) fits.from;
-    later = later_lower s.heard s.slot (plays_of askings) (omega (arith, s.later)) fits.later;
-    stand = slot_at s (record {
+going_goes s whole =
+    slot_goes s (λ askings come on fits. slot_at s (record {
       keep = kept_in askings (total_bytes s.p.plan);
       plays = plays_of askings;
       come = come;
@@ -258,9 +256,7 @@ going_goes s whole = record {
       due = λ taken less. due_going s.p taken (kept_in askings (total_bytes s.p.plan)) s.on.pacing whole less;
       after = fits.later;
       stand = fits.stand;
-    });
-  };
-}
+    }))
 
 -- the rest of a play that was halted ends at the boundary that it reaches
 abbrev ends_in : Bool → PacerState → Sends
@@ -322,12 +318,8 @@ ending_goes : {between : Bool} {pending : Option ℕ} (s : PlaySlot true between
     → GoesTo (point (Ending s.p) s.heard pending)
     (point (ends_in between (sent_through s.slot s.p)) s.slot (after_slot between pending))
     (parts_piece (parts_in true between s.p s.slot s.text))
-ending_goes s last = record {
-  later = omega (arith, s.later);
-  rest = λ askings come on fits. record {
-    from = from_lower s.heard s.slot come.slots (omega (arith, s.later)) fits.from;
-    later = later_lower s.heard s.slot (plays_of askings) (omega (arith, s.later)) fits.later;
-    stand = slot_at s (record {
+ending_goes s last =
+    slot_goes s (λ askings come on fits. slot_at s (record {
       keep = s.p.keep;
       plays = plays_of askings;
       come = come;
@@ -335,9 +327,7 @@ ending_goes s last = record {
       due = λ taken less. refl;
       after = fits.later;
       stand = ending_stand s last on fits;
-    });
-  };
-}
+    }))
 
 as_going : (p : PacerState) (heard : ℕ) (pending : Option ℕ) → IsHeld pending (Ending p) true heard
     → IsHeld pending (Going p) true heard

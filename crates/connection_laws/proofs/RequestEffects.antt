@@ -181,21 +181,25 @@ pub record IsStill (asked : Awaited) (outcome : Outcome) : Type 0 where
 abbrev pub pacing_for : Prepared → ℕ → PacerState
 pacing_for prepared start = new_pacer_state (run_pieces prepared.frames) prepared.run.sent prepared.paced start
 
+-- an entry admits a play that was asked for in a slot
+pub record IsAdmitted (heard : ℕ) (prepared : Prepared) (placed : PlacedEntry) : Type 0 where
+  pub start : ℕ
+  pub answer : placed.entry.answer ≡ Admitted start
+  pub command : placed.entry.command ≡ play_of heard prepared.plan
+  pub later : heard < start
+  pub small : start < 2 ^ 64
+
 -- the play that was asked for begins
 pub record Begins (old : SessionState) (asked : Awaited) (outcome : Outcome) (new : SessionState) : Type 0 where
   pub prepared : Prepared
   pub placed : PlacedEntry
-  pub start : ℕ
+  pub admitted : IsAdmitted old.heard prepared placed
   pub idle : sends_in old.state ≡ Idle
   pub asked_is : asked ≡ Play prepared
   pub outcome_is : outcome ≡ Entered placed
-  pub answer : placed.entry.answer ≡ Admitted start
-  pub command : placed.entry.command ≡ play_of old.heard prepared.plan
-  pub later : old.heard < start
-  pub small : start < 2 ^ 64
   pub paced : prepared.paced ≡ prepared.plan
-  pub sends : sends_in new.state ≡ Going (pacing_for prepared start)
-  pub pacing : IsPacerState (pacing_for prepared start)
+  pub sends : sends_in new.state ≡ Going (pacing_for prepared admitted.start)
+  pub pacing : IsPacerState (pacing_for prepared admitted.start)
 
 -- the play that is being sent is halted at the next boundary
 pub record Halts (old : SessionState) (asked : Awaited) (outcome : Outcome) (new : SessionState) : Type 0 where
@@ -251,8 +255,8 @@ stopped_sends setup play _ told = refl
 -- a play that begins is this one
 pub begun_is : {old new : SessionState} {asked : Awaited} {outcome : Outcome} (begins : Begins old asked outcome new)
     (askings : List StationRequest) → plays_begun asked outcome askings
-    ≡ play_by begins.prepared begins.start askings ∷ []
-begun_is begins askings = rw (begins.outcome_is, begins.asked_is, begins.answer)
+    ≡ play_by begins.prepared begins.admitted.start askings ∷ []
+begun_is begins askings = rw (begins.outcome_is, begins.asked_is, begins.admitted.answer)
 
 -- a halt that is answered leaves the rest of the play
 ends_turn : {base : SessionState} {placed : PlacedEntry} (halt : AskedHalt base) → IsHaltEntry halt.keep placed
@@ -280,14 +284,16 @@ turn_of (Admission {placed = placed} {start = start} play entry answered) =
     Starts (record {
       prepared = play.prepared;
       placed = placed;
-      start = start;
+      admitted = record {
+        start = start;
+        answer = entry.answer_is;
+        command = entry.command;
+        later = answered.0;
+        small = answered.3;
+      };
       idle = refl;
       asked_is = refl;
       outcome_is = refl;
-      answer = entry.answer_is;
-      command = entry.command;
-      later = answered.0;
-      small = answered.3;
       paced = answered.2.plan;
       sends = refl;
       pacing = answered.2.pacing;

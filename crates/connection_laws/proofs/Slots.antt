@@ -73,7 +73,7 @@ pub turn_sound : {old new : SessionState} {asked : Awaited} {outcome : Outcome}
     → IsSound (sends_in new.state) true old.heard
 turn_sound sound (Stays same still) = rw same sound
 turn_sound {old} sound (Starts begins) =
-    let later = begins.later in
+    let later = begins.admitted.later in
     rw begins.sends (record { pacing = begins.pacing; passed = omega (arith, later); even = refl }, refl)
 turn_sound {old} sound (Ends halts) =
     rw halts.sends (halted_pacing halts.pacing old.heard (subst (λ s. IsSound s true old.heard) halts.going sound))

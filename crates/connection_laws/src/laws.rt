@@ -1,36 +1,32 @@
 //! Laws on every course of a connection, on its bytes and its report, each a contract without a
 //! body.
 
-ghost use Rattle.std.specs.Prelude.{◌≡◌, ◌+◌, ◌^◌, ◌≤◌, ◌++◌, ◌∷◌, [], ℕ, All, List, None};
-ghost use Rattle.std.specs.Prelude.{Option, map};
+ghost use Rattle.std.specs.Prelude.{◌≡◌, ◌+◌, ◌^◌, ◌≤◌, ◌++◌, ◌∷◌, [], ℕ, All, List, None, Option};
+ghost use Rattle.std.specs.Prelude.{map};
 ghost use Rattle.vod_base.specs.Links.{IoEvent, HeardSlot};
-ghost use Rattle.film_frames.specs.declared.stored_films.Stored.{Stored};
 ghost use Rattle.admission.specs.declared.entries.Entry.{Entry};
 ghost use Rattle.admission.specs.Histories.{asked_in, latest_asked};
 ghost use Rattle.film_streams.specs.SettingRanges.{AreFilms};
-ghost use Rattle.film_streams.specs.declared.settings.Settings.{Settings};
 ghost use Rattle.conn.specs.Films.{rounds_film};
 ghost use Rattle.conn.specs.EventSteps.{EndsInReply, HasFailedInSlot, IsStopped, Round, Runs};
-ghost use Rattle.conn.specs.EventSteps.{RunsAll};
-ghost use Rattle.conn.specs.EventSteps.{entries_in, round_bytes, rounds_outcomes};
+ghost use Rattle.conn.specs.EventSteps.{RunsAll, entries_in, round_bytes, rounds_outcomes};
 ghost use Rattle.conn.specs.InputSteps.{Answered, HasHeard, Outcome, Stage, reply_parts};
 ghost use Rattle.conn.specs.declared.reports.ConnEnd.{ConnEnd};
 ghost use Rattle.conn.specs.declared.reports.ConnReport.{ConnReport};
 ghost use Rattle.conn.specs.Agreement.{Activity, HasDone, Visit, doings_outcomes};
 ghost use Rattle.conn.specs.Journals.{Terms};
 ghost use Rattle.conn.specs.ConnectionService.{HasServedFrom};
-ghost use Rattle.session.specs.RequestEffects.{HasCode};
 ghost use Rattle.session.specs.RequestSteps.{new_session_state};
-ghost use Rattle.session.specs.SessionStates.{SessionState};
 ghost use Rattle.station.specs.Seats.{SeatState};
+ghost use Rattle.session_laws.specs.SessionTerms.{HasCode, SessionState, Settings, Stored};
 ghost use Rattle.connection_laws.specs.ReportCourses.{IsCourseOf, activity_of};
 ghost use Rattle.connection_laws.specs.Courses.{Course, IsCourseBetween, IsCourseSplit};
-ghost use Rattle.connection_laws.specs.Courses.{course_film, course_plays};
-ghost use Rattle.connection_laws.specs.Courses.{first_stage, greatest_slot, rounds_bytes};
+ghost use Rattle.connection_laws.specs.Courses.{course_film, course_plays, first_stage};
+ghost use Rattle.connection_laws.specs.Courses.{greatest_slot, rounds_bytes};
 ghost use Rattle.connection_laws.specs.InputSplits.{AllLackMemoryAlike, ArePrefixes};
-ghost use Rattle.connection_laws.specs.InputSplits.{AreSameAnswers, Beginning};
-ghost use Rattle.connection_laws.specs.InputSplits.{InputSplit, HaveSameInput, HeardRequest};
-ghost use Rattle.connection_laws.specs.InputSplits.{HaveSameOutput, TakesUp};
+ghost use Rattle.connection_laws.specs.InputSplits.{AreSameAnswers, Beginning, InputSplit};
+ghost use Rattle.connection_laws.specs.InputSplits.{HaveSameInput, HeardRequest, HaveSameOutput};
+ghost use Rattle.connection_laws.specs.InputSplits.{TakesUp};
 ghost use Rattle.connection_laws.specs.Failures.{IsCutShort};
 ghost use Rattle.connection_laws.specs.Notes.{ending_missed, noted_play, notes_of, outcome_of};
 ghost use Rattle.connection_laws.specs.Notes.{placed_plays, rounds_missed, station_calls};
@@ -43,8 +39,7 @@ ghost use Rattle.connection_laws.specs.StartRanges.{AreMadeByConnections, IsCour
 ghost use Rattle.connection_laws.specs.StartRanges.{StartsInRange};
 ghost use Rattle.connection_laws.specs.Requests.{AreTaken};
 ghost use Rattle.connection_laws.specs.Replies.{course_replies, course_texts, text_of};
-ghost use Rattle.connection_laws.specs.Replies.{waiting_reply};
-ghost use Rattle.connection_laws.specs.Replies.{insert_texts};
+ghost use Rattle.connection_laws.specs.Replies.{waiting_reply, insert_texts};
 
 pub use crate::watch_laws::{
     law_client_requests_are_answered, law_play_reply_is_read_correctly,

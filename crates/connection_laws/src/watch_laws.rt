@@ -1,9 +1,8 @@
 //! What a client makes of what a connection sends: the promise to its meter, and what it reads in
 //! replies.
 
-ghost use Rattle.std.specs.Prelude.{◌≡◌, ◌≤◌, ◌<◌, ◌+◌, ◌^◌, ◌++◌, ◌∷◌, All, List, Some, []};
-ghost use Rattle.std.specs.Prelude.{ℕ, codes, decimal, length, map, slice_index};
-ghost use Rattle.film_frames.specs.declared.stored_films.Stored.{Stored};
+ghost use Rattle.std.specs.Prelude.{◌≡◌, ◌≤◌, ◌<◌, ◌+◌, ◌^◌, ◌++◌, ◌∷◌, All, List, Some, [], ℕ};
+ghost use Rattle.std.specs.Prelude.{codes, decimal, length, map, slice_index};
 ghost use Rattle.interleave.specs.Elements.{IsMessageLength};
 ghost use Rattle.mpeg_scan.specs.PictureRates.{picture_time};
 ghost use Rattle.mpeg_scan.specs.declared.films.Film.{Film};
@@ -14,9 +13,7 @@ ghost use Rattle.film_run.specs.Units.{stored_sizes};
 ghost use Rattle.plan_cert.specs.declared.Segment.{Segment};
 ghost use Rattle.film_streams.specs.Films.{length_ms};
 ghost use Rattle.session.specs.RunRequests.{IsPlayable};
-ghost use Rattle.film_streams.specs.declared.settings.Settings.{Settings};
 ghost use Rattle.film_streams.specs.declared.stream_numbers.Counts.{Counts};
-ghost use Rattle.film_streams.specs.declared.setups.Setup.{Setup};
 ghost use Rattle.film_streams.specs.declared.stream_numbers.StreamSource.{StreamSource};
 ghost use Rattle.rtsp_replies.specs.Replies.{field, play_fields, play_text};
 ghost use Rattle.vod_base.specs.Links.{IoEvent};
@@ -32,6 +29,7 @@ ghost use Rattle.rtsp_client.specs.declared.watch_request.WatchEnd.{WatchEnd};
 ghost use Rattle.rtsp_client.specs.declared.watch_request.WatchEnd.TheVariants.{Done};
 ghost use Rattle.rtsp_client.specs.declared.watch_request.Watched.{Watched};
 ghost use Rattle.rtsp_client.specs.declared.watch_request.Wish.{Wish};
+ghost use Rattle.session_laws.specs.SessionTerms.{Settings, Setup, Stored};
 ghost use Rattle.connection_laws.specs.ClientRequests.{AreInRange, EndsWhole, HasWatchedWhole};
 ghost use Rattle.connection_laws.specs.ClientRequests.{IsAskedFor};
 ghost use Rattle.connection_laws.specs.LinkDelivery.{IsCarried, IsDelivered, heard_bytes};

@@ -198,12 +198,12 @@ offers_in_once {wait} {setup} {paused} r is its =
 sets_up_once : (r : TwoRequests) (film : ℕ) → SetsUp r.w.old r.request film r.w.ask r.w.one
     → SetsUp r.w.old r.other film r.w.again r.w.other → Agree r.w
 sets_up_once r film is its =
-    let read = subst (λ h. IsSetupRead r.w.old.settings h film its.read) r.alike.head its.is_read in
+    let read = subst (λ h. IsSetupRead r.w.old.settings h film its.read) r.alike.parts.head_is its.is_read in
     let reads = read_once (record { settings = r.w.old.settings; head = r.request.head.now; film = film }) is.read its.read
     is.is_read read in
     set_up_once r.w r.request.sequence is.read is.done
     (subst (λ x. IsSetUp r.w.old r.request.sequence x r.w.again r.w.other) reads
-    (subst (λ s. IsSetUp r.w.old s its.read r.w.again r.w.other) r.alike.sequence its.done))
+    (subst (λ s. IsSetUp r.w.old s its.read r.w.again r.w.other) r.alike.parts.sequence_is its.done))
 
 plays_once : (r : TwoRequests) (state : State) (authority : List ℕ)
     → Plays state r.w.old r.request authority r.w.ask r.w.one
@@ -212,10 +212,10 @@ plays_once r Init authority is its = absurd is
 plays_once r (Ready setup paused) authority is its =
     let range = header_value r.request.head.now (codes "Range") in
     let call = play_call r.request.sequence authority setup in
-    let planned = subst (λ h. IsPlanned r.w.old setup paused (header_value h (codes "Range")) its.planned) r.alike.head
+    let planned = subst (λ h. IsPlanned r.w.old setup paused (header_value h (codes "Range")) its.planned) r.alike.parts.head_is
     its.is_planned in
     let asks = subst (λ s. AsksPlayOr r.w.old (play_call s authority setup) its.planned r.w.again r.w.other)
-    r.alike.sequence its.asks in
+    r.alike.parts.sequence_is its.asks in
     elim (planned_once (record { old = r.w.old; setup = setup; paused = paused; range = range }) is.planned its.planned
     is.is_planned planned) [
       | inl alike ↦ play_or_once r authority setup is.planned is.asks
@@ -226,35 +226,35 @@ plays_once r (Ready setup paused) authority is its =
       ]
     ]
 plays_once r _ authority is its =
-    replied_once r.w _ _ (ap (λ s. session_text s r.w.old.id) r.alike.sequence) is its
+    replied_once r.w _ _ (ap (λ s. session_text s r.w.old.id) r.alike.parts.sequence_is) is its
 
 refused_alike : (r : TwoRequests) (refusal : Refusal)
     → IsRefused r.w.old (Some r.request.sequence) refusal [] r.w.ask r.w.one
     → IsRefused r.w.old (Some r.other.sequence) refusal [] r.w.again r.w.other → Agree r.w
 refused_alike r refusal is its =
-    replied_once r.w _ _ (ap (λ s. refusal_text (Some s) refusal []) r.alike.sequence) is its
+    replied_once r.w _ _ (ap (λ s. refusal_text (Some s) refusal []) r.alike.parts.sequence_is) is its
 
 gets_offer_once : (r : TwoRequests) (state : State) → GetsOffer state r.w.old r.request r.w.ask r.w.one
     → GetsOffer state r.w.old r.other r.w.again r.w.other → Agree r.w
 gets_offer_once r Init is its = refused_alike r Session is its
 gets_offer_once r (Ready setup paused) (inl is) (inl its) = refused_alike r Parameter is.refused its.refused
 gets_offer_once r (Ready setup paused) (inl is) (inr its) =
-    absurd (is.none its.wait (subst (λ h. HasWait h its.wait) r.alike.head its.has_wait))
+    absurd (is.none its.wait (subst (λ h. HasWait h its.wait) r.alike.parts.head_is its.has_wait))
 gets_offer_once r (Ready setup paused) (inr is) (inl its) =
-    absurd (its.none is.wait (subst (λ h. HasWait h is.wait) (sym r.alike.head) is.has_wait))
+    absurd (its.none is.wait (subst (λ h. HasWait h is.wait) (sym r.alike.parts.head_is) is.has_wait))
 gets_offer_once r (Ready setup paused) (inr is) (inr its) =
     let wait = wait_once (header_value r.request.head.now (codes "x-Wait")) is.wait its.wait is.has_wait
-    (subst (λ h. HasWait h its.wait) r.alike.head its.has_wait) in
+    (subst (λ h. HasWait h its.wait) r.alike.parts.head_is its.has_wait) in
     offers_in_once r is.offers
     (subst (λ w. OffersReady r.w.old r.request.sequence w setup paused r.w.again r.w.other) wait
-    (subst (λ s. OffersReady r.w.old s its.wait setup paused r.w.again r.w.other) r.alike.sequence its.offers))
+    (subst (λ s. OffersReady r.w.old s its.wait setup paused r.w.again r.w.other) r.alike.parts.sequence_is its.offers))
 gets_offer_once r _ is its = refused_alike r NotNow is its
 
 gets_once : (r : TwoRequests) (topic : Topic) → Gets r.w.old r.request topic r.w.ask r.w.one
     → Gets r.w.old r.other topic r.w.again r.w.other → Agree r.w
-gets_once r NoTopic is its = replied_once r.w _ _ (ap plain_text r.alike.sequence) is its
+gets_once r NoTopic is its = replied_once r.w _ _ (ap plain_text r.alike.parts.sequence_is) is its
 gets_once r Booked is its =
-    looks_once r is (subst (λ s. Looks r.w.old s r.w.again r.w.other) r.alike.sequence its)
+    looks_once r is (subst (λ s. Looks r.w.old s r.w.again r.w.other) r.alike.parts.sequence_is its)
 gets_once r OfferTopic is its = gets_offer_once r r.w.old.state is its
 gets_once r Unknown is its = refused_alike r Parameter is its
 
@@ -262,7 +262,7 @@ gets_once r Unknown is its = refused_alike r Parameter is its
 same_names : {a b : List ℕ} {film number : ℕ} (r : TwoRequests) → Names r.w.old.films r.request.url.now a film
     → Names r.w.old.films r.other.url.now b number → AreSameNames a b film number
 same_names {b} {number} r is its =
-    names_once r.w.films is (subst (λ u. Names r.w.old.films u b number) r.alike.url its)
+    names_once r.w.films is (subst (λ u. Names r.w.old.films u b number) r.alike.parts.url_is its)
 
 -- what a request does, each time
 abbrev first_does : TwoRequests → Method → Type 0
@@ -272,13 +272,13 @@ abbrev second_does : TwoRequests → Method → Type 0
 second_does r m = Does (record { old = r.w.old; new = r.w.other; request = r.other; ask = r.w.again }) m
 
 does_once : (r : TwoRequests) (method : Method) → first_does r method → second_does r method → Agree r.w
-does_once r Options is its = replied_once r.w _ _ (ap public_text r.alike.sequence) is its
+does_once r Options is its = replied_once r.w _ _ (ap public_text r.alike.parts.sequence_is) is its
 does_once r Describe is its =
     let names = same_names r is.1.1.0.named its.1.1.0.named in
     describes_once r.w r.request.sequence is.1.0 is.0 is.1.1.1
     (subst (λ n. Describes r.w.old r.request.sequence n is.0 r.w.again r.w.other) names.film_is
     (subst (λ a. Describes r.w.old r.request.sequence its.1.0 a r.w.again r.w.other) names.authority
-    (subst (λ s. Describes r.w.old s its.1.0 its.0 r.w.again r.w.other) r.alike.sequence its.1.1.1)))
+    (subst (λ s. Describes r.w.old s its.1.0 its.0 r.w.again r.w.other) r.alike.parts.sequence_is its.1.1.1)))
 does_once r SetupMethod is its =
     let names = same_names r is.1.1.0.named its.1.1.0.named in
     sets_up_once r is.1.0 is.1.1.1
@@ -289,13 +289,13 @@ does_once r PlayMethod is its =
     (subst (λ a. Plays r.w.old.state r.w.old r.other a r.w.again r.w.other) names.authority its.1.1.1)
 does_once r Pause is its =
     pauses_once r.w r.w.old.state r.request.sequence is
-    (subst (λ s. Pauses r.w.old.state r.w.old s r.w.again r.w.other) r.alike.sequence its)
+    (subst (λ s. Pauses r.w.old.state r.w.old s r.w.again r.w.other) r.alike.parts.sequence_is its)
 does_once r Teardown is its =
     tears_once r.w r.w.old.state r.request.sequence is
-    (subst (λ s. TearsDown r.w.old.state r.w.old s r.w.again r.w.other) r.alike.sequence its)
+    (subst (λ s. TearsDown r.w.old.state r.w.old s r.w.again r.w.other) r.alike.parts.sequence_is its)
 does_once r GetParameter is its =
     let topic = topic_once r.request.body.now is.topic its.topic is.is_topic
-    (subst (λ b. IsTopic b its.topic) r.alike.body its.is_topic) in
+    (subst (λ b. IsTopic b its.topic) r.alike.parts.body_is its.is_topic) in
     gets_once r is.topic is.gets (subst (λ t. Gets r.w.old r.other t r.w.again r.w.other) topic its.gets)
 
 takes_once : (w : TwoHearings) (request : Request) (judgement : Result Task Refusal) → IsReadAs w.message request
@@ -314,8 +314,8 @@ takes_once w request (Ok task) read judged takes =
 takes_once w request (Err refusal) read judged takes =
     let r = reading_of (second_of w) request read in
     replied_once w _ _
-    (ap (λ s. refusal_text (Some s) refusal (option_of r.other.head.now)) r.alike.sequence
-    ∙ ap (λ h. refusal_text (Some request.sequence) refusal (option_of h)) r.alike.head) takes
+    (ap (λ s. refusal_text (Some s) refusal (option_of r.other.head.now)) r.alike.parts.sequence_is
+    ∙ ap (λ h. refusal_text (Some request.sequence) refusal (option_of h)) r.alike.parts.head_is) takes
     (refused_in refusal r judged)
 
 both_once : (w : TwoHearings) → Hears w.old w.message w.ask w.one → Hears w.old w.message w.again w.other → Agree w

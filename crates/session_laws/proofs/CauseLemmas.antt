@@ -97,23 +97,23 @@ not_own _ film other = (_, (refl, other))
 -- of a request, by another that is alike
 judged_causes : {request other : Request} (old : SessionState) → AreAlike request other → (refusal : Refusal)
     → IsJudged old.films old.id old.state other (Err refusal) → Causes old request (code_of refusal)
-judged_causes old alike Unknown is = λ known. is.none known.0 (alike.method ∙ known.1)
+judged_causes old alike Unknown is = λ known. is.none known.0 (alike.parts.method_is ∙ known.1)
 judged_causes {other} old alike Required is =
     let own = some_option other (header_value other.head.now (codes "Require"))
     (header_value other.head.now (codes "Proxy-Require")) refl refl is.required in (
       own.0,
       subst (λ (x : List ℕ). (header_value x (codes "Require") ≡ Some own.0)
-          ⊎ (header_value x (codes "Proxy-Require") ≡ Some own.0)) alike.head own.1,
+          ⊎ (header_value x (codes "Proxy-Require") ≡ Some own.0)) alike.parts.head_is own.1,
     )
 judged_causes old alike Session is = λ setup set names.
     is.session (fits_session is.method (has_session_in old.state) (exists_in old.state setup set)
-    (subst (λ (x : List ℕ). NamesSession old.id x) (sym alike.head) names))
+    (subst (λ (x : List ℕ). NamesSession old.id x) (sym alike.parts.head_is) names))
 judged_causes old alike Film is = λ authority film named. not_own old.state film (λ own. is.none (
   authority,
   (
     film,
     record {
-      named = subst (λ (u : List ℕ). Names old.films u authority film) (sym alike.url) named;
+      named = subst (λ (u : List ℕ). Names old.films u authority film) (sym alike.parts.url_is) named;
       own = fits_film is.method old.state film own;
     },
   ),

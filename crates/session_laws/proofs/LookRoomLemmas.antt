@@ -85,11 +85,11 @@ never_lacks : (old : SessionState) (message : List ℕ) → 0 < old.looks_left �
     → ¬ MayRunOutOfMemory old message
 never_lacks old message some is (inl play) =
     let same = same_request message is.request play.play.request is.is_request play.play.is_request in
-    let no : ⊥ = cc (same.method, is.method, play.play.method_is) in no
+    let no : ⊥ = cc (same.parts.method_is, is.method, play.play.method_is) in no
 never_lacks old message some is (inr (inl offer)) =
     let same = same_request message is.request offer.request is.is_request offer.offer.is_request in
     let body : IsWord (codes "x-Offer") is.request.body.now =
-    subst (λ (b : List ℕ). IsWord (codes "x-Offer") b) same.body offer.offer.body in
+    subst (λ (b : List ℕ). IsWord (codes "x-Offer") b) same.parts.body_is offer.offer.body in
     let topics : OfferTopic ≡ Booked = topic_once is.request.body.now Booked OfferTopic is.body body in
     let no : ⊥ = cc in no
 never_lacks old message some is (inr (inr look)) = let none = look.none in omega (arith, some, none)

@@ -115,7 +115,7 @@ refused_alike : {request other : Request} (h : HeardMessage) (refusal : Refusal)
     → IsRefused h.old (Some other.sequence) refusal [] h.ask h.new
     → IsRefusedBy h.old (code_of refusal) request.sequence h.ask h.new
 refused_alike {other} h refusal alike is =
-    subst (λ n. IsRefusedBy h.old (code_of refusal) n h.ask h.new) alike.sequence
+    subst (λ n. IsRefusedBy h.old (code_of refusal) n h.ask h.new) alike.parts.sequence_is
     (refused_as h other.sequence refusal [] is)
 
 -- ---- OPTIONS
@@ -132,7 +132,7 @@ options_answered h request plain =
     record {
       alone = alone_by is;
       told = subst (λ (x : List ℕ). IsPublicTold request.sequence x)
-          (ap public_text (sym t.alike.sequence) ∙ sym (text_by h.old (public_text t.other.sequence) is))
+          (ap public_text (sym t.alike.parts.sequence_is) ∙ sym (text_by h.old (public_text t.other.sequence) is))
           (public_told request.sequence);
     }
 
@@ -154,10 +154,10 @@ described h request t =
       authority = authority;
       film = film;
       stored = describes.stored;
-      named = subst (λ (u : List ℕ). Names h.old.films u authority film) t.alike.url named;
+      named = subst (λ (u : List ℕ). Names h.old.films u authority film) t.alike.parts.url_is named;
       at = describes.at;
       told = λ short. subst (λ n. IsDescribeReply n authority (string_bytes describes.stored.name)
-          describes.stored.film h.new.text) t.alike.sequence (film_told describes named.read
+          describes.stored.film h.new.text) t.alike.parts.sequence_is (film_told describes named.read
           (ap good_name name ∙ named.read.name_is.good) short);
     }
 
@@ -222,7 +222,7 @@ setup_read : (h : HeardMessage) (request : Request) (read : Result Setup Refusal
 setup_read h request read t is =
     let sets : SetsUp h.old t.other t.does.1.0 h.ask h.new = t.does.1.1.1 in
     let own : IsSetupRead h.old.settings request.head.now t.does.1.0 sets.read =
-    subst (λ (x : List ℕ). IsSetupRead h.old.settings x t.does.1.0 sets.read) t.alike.head sets.is_read in
+    subst (λ (x : List ℕ). IsSetupRead h.old.settings x t.does.1.0 sets.read) t.alike.parts.head_is sets.is_read in
     subst (λ (r : Result Setup Refusal). IsSetUp h.old t.other.sequence r h.ask h.new)
     (sym (read_once (record { settings = h.old.settings; head = request.head.now; film = t.does.1.0 }) sets.read read
     own is)) sets.done
@@ -233,7 +233,7 @@ pub setup_answered : (h : HeardMessage) (request : Request) (setup : Setup) → 
 setup_answered h request setup films asked settles =
     let t = setup_taken h request asked in
     let named : Names h.old.films request.url.now t.does.0 t.does.1.0 =
-    subst (λ (u : List ℕ). Names h.old.films u t.does.0 t.does.1.0) t.alike.url t.does.1.1.0.named in
+    subst (λ (u : List ℕ). Names h.old.films u t.does.0 t.does.1.0) t.alike.parts.url_is t.does.1.1.0.named in
     let same = names_once films named asked.is.named in
     let is : IsSetUp h.old t.other.sequence (Ok setup) h.ask h.new = setup_read h request (Ok setup) t (record {
       film_is = settles.film_is ∙ same.film_is;
@@ -248,7 +248,7 @@ setup_answered h request setup films asked settles =
       ready = is.1 ∙ ap (λ (x : List ℕ). record (with_reply h.old x) { state = Ready setup None })
           (sym (ap (λ (s : SessionState). s.text) is.1));
       told = subst (λ n. IsSetupReply n (identity_of h.old.source setup h.old.counts) h.old.id h.new.text)
-          t.alike.sequence (setup_told h.old h.new t.other.sequence setup h.old.counts is);
+          t.alike.parts.sequence_is (setup_told h.old h.new t.other.sequence setup h.old.counts is);
     }
 
 pub setup_transport : (h : HeardMessage) (request : Request) → AskedSetup h request
@@ -303,7 +303,7 @@ play_confirmed h request hand is no_range =
     record {
       alone = alone_by done;
       told = subst (λ (x : List ℕ). HasSessionInReply request.sequence h.old.id x)
-          (ap (λ n. session_text n h.old.id) (sym t.alike.sequence)
+          (ap (λ n. session_text n h.old.id) (sym t.alike.parts.sequence_is)
           ∙ sym (text_by h.old (session_text t.other.sequence h.old.id) done))
           (session_told request.sequence h.old.id);
     }
@@ -402,10 +402,10 @@ ready_play h r is =
       alike = t.alike;
       authority = name;
       named = subst (λ n. Names h.old.films r.request.url.now name n) film
-          (subst (λ (u : List ℕ). Names h.old.films u name t.does.1.0) t.alike.url on.named);
+          (subst (λ (u : List ℕ). Names h.old.films u name t.does.1.0) t.alike.parts.url_is on.named);
       planned = done.planned;
       is_planned = subst (λ (x : List ℕ). IsPlanned h.old r.setup r.paused (header_value x (codes "Range"))
-          done.planned) t.alike.head done.is_planned;
+          done.planned) t.alike.parts.head_is done.is_planned;
       asks = done.asks;
     }
 
@@ -427,7 +427,7 @@ planned_asks {h} {r} {planned} p is asks =
       planned_is = is.1;
       named = p.named;
       command = asks.command;
-      leaves = asks.state ∙ ap (λ (s : Stored). F s p.other.sequence) film ∙ ap (F is.0) p.alike.sequence;
+      leaves = asks.state ∙ ap (λ (s : Stored). F s p.other.sequence) film ∙ ap (F is.0) p.alike.parts.sequence_is;
     }
 
 -- and memory may run out
@@ -453,7 +453,7 @@ play_ready h r is =
         | inr refused ↦ inr (NoMemory refused)
       ]
       | Err refusal ↦ λ its refused.
-          inr (subst (λ n. PlanRefusal h.old r.setup r.paused range n h.ask h.new) p.alike.sequence
+          inr (subst (λ n. PlanRefusal h.old r.setup r.paused range n h.ask h.new) p.alike.parts.sequence_is
           (plan_refusal h (record { setup = r.setup; paused = r.paused; range = range; sequence = p.other.sequence })
           refusal its refused))
     ]) p.is_planned p.asks
@@ -511,7 +511,7 @@ topic_taken h request topic is about =
     }) in
     let gets : GetsParameter h.old up.other h.ask h.new = up.does in
     let own : IsTopic request.body.now gets.topic =
-    subst (λ (b : List ℕ). IsTopic b gets.topic) up.alike.body gets.is_topic in
+    subst (λ (b : List ℕ). IsTopic b gets.topic) up.alike.parts.body_is gets.is_topic in
     record {
       other = up.other;
       alike = up.alike;
@@ -527,7 +527,7 @@ pub parameter_empty : (h : HeardMessage) (request : Request) → IsParameterRequ
     → request.body.now ≡ [] → h.new.text ≡ reply_text 200 (Some request.sequence) [] []
 parameter_empty h request is empty =
     let t = topic_taken h request Nothing is empty in
-    text_by h.old (plain_text t.other.sequence) t.gets ∙ ap plain_text t.alike.sequence
+    text_by h.old (plain_text t.other.sequence) t.gets ∙ ap plain_text t.alike.parts.sequence_is
 
 pub parameter_unknown : (h : HeardMessage) (request : Request) → IsParameterRequest h.old h.message request
     → IsUnknownBody request.body.now → IsRefusedBy h.old 451 request.sequence h.ask h.new
@@ -550,7 +550,7 @@ pub parameter_look : (h : HeardMessage) (request : Request) → IsParameterReque
     ⊎ IsRefusedFor (h.old.looks_left ≡ 0) h.old 500 request.sequence h.ask h.new
 parameter_look h request is body =
     let t = topic_taken h request Booked is body in
-    look_done h t.other.sequence request.sequence t.alike.sequence t.gets
+    look_done h t.other.sequence request.sequence t.alike.parts.sequence_is t.gets
 
 -- a request for an offer
 pub record OfferRequest (h : HeardMessage) (request : Request) : Type 0 where
@@ -587,7 +587,7 @@ offer_no_wait h r offer none =
     let t = topic_taken h r.request OfferTopic offer.is offer.body in
     elim (offer_taken t r.ready) [
       | inl short ↦ refused_alike h Parameter t.alike short.refused
-      | inr offers ↦ absurd (none offers.wait (subst (λ (x : List ℕ). IsWaitIn x offers.wait) t.alike.head
+      | inr offers ↦ absurd (none offers.wait (subst (λ (x : List ℕ). IsWaitIn x offers.wait) t.alike.parts.head_is
           (wait_in t.other.head.now (header_value t.other.head.now (codes "x-Wait")) offers.wait refl offers.has_wait)))
     ]
 
@@ -618,10 +618,10 @@ offer_ready h r wait offer waits =
     let t = topic_taken h r.request OfferTopic offer.is offer.body in
     elim (offer_taken t r.ready) [
       | inl short ↦
-          absurd (short.none wait (has_wait (subst (λ (x : List ℕ). IsWaitIn x wait) (sym t.alike.head) waits)))
+          absurd (short.none wait (has_wait (subst (λ (x : List ℕ). IsWaitIn x wait) (sym t.alike.parts.head_is) waits)))
       | inr offers ↦
           subst (λ n. IsOfferAskedOf h.old h.message h.ask h.new ⊎ PlanRefusal h.old r.setup r.paused None n h.ask h.new)
-          t.alike.sequence (offers_done h offers.offers)
+          t.alike.parts.sequence_is (offers_done h offers.offers)
     ]
 
 -- ---- another film

@@ -74,7 +74,7 @@ pub refused_by : (r : HeardRequest) (refusal : Refusal)
     → IsRefusedBy r.heard.old (code_of refusal) r.request.sequence r.heard.ask r.heard.new
 refused_by r refusal own =
     let its = reading_of r.heard r.request r.is in
-    subst (λ n. IsRefusedBy r.heard.old (code_of refusal) n r.heard.ask r.heard.new) its.alike.sequence
+    subst (λ n. IsRefusedBy r.heard.old (code_of refusal) n r.heard.ask r.heard.new) its.alike.parts.sequence_is
     (refused_as r.heard its.other.sequence refusal (option_of its.other.head.now) (refused_in refusal its own))
 
 pub unknown_refused : (r : HeardRequest) → ¬ IsKnownMethod r.request
@@ -256,7 +256,7 @@ range_refused {request} heard is =
     elim (heard_method heard request Play is.is_request is.method) [
       | IsStopped other refusal alike judged done ↦
           refused heard (Some other.sequence) refusal (option_of other.head.now) done
-      | IsTakenUp up ↦ absurd (ranged_untimely heard up.other is up.alike.head up.timely)
+      | IsTakenUp up ↦ absurd (ranged_untimely heard up.other is up.alike.parts.head_is up.timely)
     ]
 
 -- its code, where no other refusal comes before

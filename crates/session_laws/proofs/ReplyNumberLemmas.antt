@@ -48,7 +48,7 @@ own_number h request read reply = elim reply as (λ x. HasNumber request.sequenc
     of_other : {text : List ℕ} (other : Request) → IsReadAs h.message other → HasNumber other.sequence text
         → HasNumber request.sequence text
     of_other {text} other its has =
-        subst (λ n. HasNumber n text) (same_request h.message request other read its).sequence has
+        subst (λ n. HasNumber n text) (same_request h.message request other read its).parts.sequence_is has
 
 -- a reply that waits for the station's answer
 full_named : {n : ℕ} (h : HeardMessage) → sequence_of h.new.awaited ≡ n
@@ -115,7 +115,7 @@ answer_number h request read answer = elim answer [
         → RepliesHaveNumber request.sequence h.ask h.new
     of_task taken has =
         subst (λ n. RepliesHaveNumber n h.ask h.new)
-        (same_request h.message request taken.request read taken.is_request).sequence has
+        (same_request h.message request taken.request read taken.is_request).parts.sequence_is has
 
 pub reply_number : (request : Request) (heard : HeardMessage)
     → IsReadAs heard.message request → RepliesHaveNumber request.sequence heard.ask heard.new

@@ -3,7 +3,7 @@
 use Rattle.std.proofs.Common.{zero, suc, ◌≡◌, ℕ, List, Some, Result, Ok, Err, subst, ◌∙◌, inl, inr, ◌+◌, ◌*◌, ◌<◌, ◌==◌}
 use Rattle.std.proofs.Common.{◌⊎◌, if◌then◌else◌, get_or, length, None, codes, refl, sym, ap, arith, below_more}
 use Rattle.rtsp_text.specs.declared.requests.Request.{Request}
-use Rattle.rtsp_text.proofs.MessageUniqueness.{no_fault, request_once}
+use Rattle.rtsp_text.proofs.MessageUniqueness.{AreSameParts, Asked, no_fault, request_once}
 use Rattle.rtsp_methods.specs.Methods.{name_of}
 use Rattle.rtsp_methods.specs.RequiredOptions.{option_of, required_of}
 use Rattle.rtsp_methods.specs.declared.methods.Method.{Method}
@@ -196,12 +196,17 @@ ranked old request State is = record { below = omega arith; is = refl }
 ranked old request _ is = absurd is
 
 -- the parts of two requests are the same
+abbrev parts_of : Request → Asked
+parts_of request = record {
+  method = request.method.now;
+  url = request.url.now;
+  sequence = request.sequence;
+  head = request.head.now;
+  body = request.body.now;
+}
+
 pub record AreAlike (request other : Request) : Type 0 where
-  pub method : other.method.now ≡ request.method.now
-  pub url : other.url.now ≡ request.url.now
-  pub sequence : other.sequence ≡ request.sequence
-  pub head : other.head.now ≡ request.head.now
-  pub body : other.body.now ≡ request.body.now
+  pub parts : AreSameParts (parts_of other) (parts_of request)
 
 -- a request and the rank of its judgement, by another that is alike
 as_alike : {request other : Request} {n : ℕ} (old : SessionState) → AreAlike request other
@@ -209,9 +214,9 @@ as_alike : {request other : Request} {n : ℕ} (old : SessionState) → AreAlike
 as_alike {request} {other} {n} old alike stop =
     let S : List ℕ → List ℕ → List ℕ → Type 0 = λ name url head.
     StopsAt (record { old = old; name = name; url = url; head = head }) n in
-    subst (S request.method.now request.url.now) alike.head
-    (subst (λ u. S request.method.now u other.head.now) alike.url
-    (subst (λ m. S m other.url.now other.head.now) alike.method stop))
+    subst (S request.method.now request.url.now) alike.parts.head_is
+    (subst (λ u. S request.method.now u other.head.now) alike.parts.url_is
+    (subst (λ m. S m other.url.now other.head.now) alike.parts.method_is stop))
 
 -- a request that is alike another that is refused is refused so
 pub judged_refused : {request other : Request} (old : SessionState) (refusal : Refusal) → AreAlike request other
@@ -242,15 +247,7 @@ never_refused {request} {other} old refusal alike passes = λ its.
 -- the request that a message is
 pub same_request : (message : List ℕ) (request other : Request)
     → IsReadAs message request → IsReadAs message other → AreAlike request other
-same_request message request other is its =
-    let parts = request_once its is in
-    record {
-      method = parts.method_is;
-      url = parts.url_is;
-      sequence = parts.sequence_is;
-      head = parts.head_is;
-      body = parts.body_is;
-    }
+same_request message request other is its = record { parts = request_once its is }
 
 -- a request that a message is, as the session read and judged it, and what it did
 pub record Reading (h : HeardMessage) (request : Request) : Type 0 where
@@ -325,7 +322,7 @@ heard_method h request m is method =
     → HeardMethod h request m) [
       | Ok task ↦ λ judged takes.
           let same : method_of task ≡ m = method_once r.other.method.now (method_of task) m judged.talk.spoken.named
-          (r.alike.method ∙ method) in
+          (r.alike.parts.method_is ∙ method) in
           IsTakenUp (record {
             other = r.other;
             alike = r.alike;
