@@ -39,6 +39,7 @@ use Rattle.connection_laws.specs.WatchEnds.{AreAnswers}
 use Rattle.connection_laws.proofs.ReplyReadings.{IsSetupRead, setup_read}
 use Rattle.connection_laws.proofs.RequestReplies.{IsNamed, named_still, setup_replied}
 use Rattle.connection_laws.proofs.BookedPlays.{comes_none}
+use Rattle.rtsp_replies.specs.Messages.{IsMessage}
 
 -- ---- the walk to PLAY
 
@@ -225,69 +226,71 @@ module _ {b : Beginning} {out : Outlook} (taken : Taken b out) where
         read = λ few. (begun.answer few, after.1);
       }
 
--- SETUP is processed before PLAY: its reply is read, and after it there is a session
-setup_walk : {b : Beginning} {out : Outlook} (taken : Taken b out) (one : List ℕ)
-    → IsAhead b out taken.old.session (one ∷ []) (from_taken taken)
-    → IsPlayedWhole b out taken.old.session 1 (from_taken taken)
-setup_walk {b} {out} taken one is =
-    let all : message ∷ later.requests ≡ one ∷ (play_text b.wish b.session ∷ out.last) = is.requests_are in
-    let here : message ≡ one = cc in
-    let rest : later.requests ≡ play_text b.wish b.session ∷ out.last = cc in
-    let at : message ≡ setup_text b.wish = here ∙ is.setups.0 in
-    let none = no_play_begins request is.waits.stands (setup_no_play b at) later.askings in
-    let next = leads.walk [] (record {
-      waits = answered_waits request at is.waits;
-      named = answered_named request is.named;
-      setups = is.setups.1;
-      fresh = tt;
-      requests_are = rest;
-      teardowns = is.teardowns;
-      plays = sym (ap (λ l. l ++ plays_of later.askings) none) ∙ is.plays;
-    }) in
-    let slot = ap (λ (part : LastingPart). part.heard) (taken_keeps replied) in
-    let late : old.session.heard < out.play.start = omega (arith, slot, next.one.late) in
-    let heard = replied.heard in
-    let reply : heard.ask ≡ Reply = (setup_asked request at is.waits).0 in
-    let same : replied.answered ≡ heard.asking =
-    reply_same heard.asking heard.ask outcome replied.answered reply heard.answered in
-    let own = own_reply (answers_as heard.ask outcome heard.answered) (subst IsOwnReply (sym reply) tt) in
-    let whole = own.whole (replies_whole old.session message heard.ask heard.asking is.named
-    (setup_room b at) heard.hears) in
-    let read : IsSetupRead replied.answered.text =
-    elim (setup_replied b request at) [
-      | inl still ↦
-          let unset : setup_in new.session.state ≡ None =
-          ap (λ (s : Stage). setup_in s.session.state) replied.new_is
-          ∙ ((replied_setup replied.answered).setup
-          ∙ (ap (λ (s : SessionState). setup_in s.state) same ∙ (ap setup_in still ∙ is.fresh))) in
-          let has : false ≡ true =
-          sym (has_setup new.session.state ∙ ap (λ (o : Option Setup). is_some o) unset) ∙ next.ready in
-          absurd (let no : ⊥ = cc in no)
-      | inr text ↦
-          setup_read old.session.source.ssrc old.session.id whole (id_printed is.named)
-          (ap (λ (s : SessionState). s.text) same ∙ text)
-    ] in
-    record {
-      one = record {
-        wished = next.one.wished;
-        alone = next.one.alone;
-        late = late;
-        before = (late, next.one.before);
-      };
-      whole = (whole, next.whole);
-      ready = tt;
-      read = λ few. (read, next.read few);
-    }
-  where
-    open taken use {old, new, request, later, leads}
-    open request use {message, outcome, replied}
+  -- the reply to SETUP is complete, and read where there is a session after it
+  setup_reply : IsWaiting b old.session → HasValidIds old.session → setup_in old.session.state ≡ None
+      → message ≡ setup_text b.wish → has_session_in new.session.state ≡ true
+      → IsMessage replied.answered.text × IsSetupRead replied.answered.text
+  setup_reply waits named fresh at ready =
+      let reply : heard.ask ≡ Reply = (setup_asked request at waits).0 in
+      let same : replied.answered ≡ heard.asking =
+      reply_same heard.asking heard.ask outcome replied.answered reply heard.answered in
+      let own = own_reply (answers_as heard.ask outcome heard.answered) (subst IsOwnReply (sym reply) tt) in
+      let whole = own.whole (replies_whole old.session message heard.ask heard.asking named
+      (setup_room b at) heard.hears) in (
+        whole,
+        elim (setup_replied b request at) [
+          | inl still ↦
+              let unset : setup_in new.session.state ≡ None =
+              ap (λ (s : Stage). setup_in s.session.state) replied.new_is
+              ∙ ((replied_setup replied.answered).setup
+              ∙ (ap (λ (s : SessionState). setup_in s.state) same ∙ (ap setup_in still ∙ fresh))) in
+              let has : false ≡ true =
+              sym (has_setup new.session.state ∙ ap (λ (o : Option Setup). is_some o) unset) ∙ ready in
+              absurd (let no : ⊥ = cc in no)
+          | inr text ↦
+              setup_read old.session.source.ssrc old.session.id whole (id_printed named)
+              (ap (λ (s : SessionState). s.text) same ∙ text)
+        ],
+      )
 
-taken_walk : {b : Beginning} {out : Outlook} (taken : Taken b out) (ahead : List (List ℕ))
-    → IsAhead b out taken.old.session ahead (from_taken taken)
-    → IsPlayedWhole b out taken.old.session (length ahead) (from_taken taken)
-taken_walk taken [] is = play_walk taken is
-taken_walk taken (one ∷ []) is = setup_walk taken one is
-taken_walk taken (one ∷ two ∷ ahead) is = absurd is.fresh
+  -- SETUP is processed before PLAY
+  setup_walk : (one : List ℕ) → IsAhead b out old.session (one ∷ []) (from_taken taken)
+      → IsPlayedWhole b out old.session 1 (from_taken taken)
+  setup_walk one is =
+      let all : message ∷ later.requests ≡ one ∷ (play_text b.wish b.session ∷ out.last) = is.requests_are in
+      let here : message ≡ one = cc in
+      let rest : later.requests ≡ play_text b.wish b.session ∷ out.last = cc in
+      let at : message ≡ setup_text b.wish = here ∙ is.setups.0 in
+      let none = no_play_begins request is.waits.stands (setup_no_play b at) later.askings in
+      let next = leads.walk [] (record {
+        waits = answered_waits request at is.waits;
+        named = answered_named request is.named;
+        setups = is.setups.1;
+        fresh = tt;
+        requests_are = rest;
+        teardowns = is.teardowns;
+        plays = sym (ap (λ l. l ++ plays_of later.askings) none) ∙ is.plays;
+      }) in
+      let slot = ap (λ (part : LastingPart). part.heard) (taken_keeps replied) in
+      let late : old.session.heard < out.play.start = omega (arith, slot, next.one.late) in
+      let reply = setup_reply is.waits is.named is.fresh at next.ready in
+      record {
+        one = record {
+          wished = next.one.wished;
+          alone = next.one.alone;
+          late = late;
+          before = (late, next.one.before);
+        };
+        whole = (reply.0, next.whole);
+        ready = tt;
+        read = λ few. (reply.1, next.read few);
+      }
+
+  taken_walk : (ahead : List (List ℕ)) → IsAhead b out old.session ahead (from_taken taken)
+      → IsPlayedWhole b out old.session (length ahead) (from_taken taken)
+  taken_walk [] is = play_walk is
+  taken_walk (one ∷ []) is = setup_walk one is
+  taken_walk (one ∷ two ∷ ahead) is = absurd is.fresh
 
 leads_back : (b : Beginning) (out : Outlook) → GoesBack (Leads b out)
 leads_back b out = record {

@@ -251,21 +251,18 @@ due_up s = record {
   most = due_most s.p s.slot s.on.pacing;
 }
 
--- the bytes of a slot, with the reply that waits
-pub slot_at : {waits between : Bool} {pending : Option ℕ} (s : PlaySlot waits between pending) (next : AfterSlot s)
-    → StandAt (play_with s.p next.keep) s.p.sent next.plays (record {
-      end = next.come.end;
-      slots = with_pending pending next.come.slots;
-      parts = parts_in waits between s.p s.slot s.text ++ next.come.parts;
-    })
-slot_at {waits = true} {pending = None} s next = absurd (true≢false s.held)
-slot_at {waits = false} {pending = Some taken} s next = absurd (true≢false (sym s.held.0))
-slot_at {waits = false} {pending = None} s next = film_at (due_up s) next.stand
-slot_at {waits = true} {between = false} {pending = Some taken} s next =
-    let all : step_end true (at_slot s.slot s.p) ≡ due_by s.p s.slot =
-    ap (λ (r : PacerState). r.sent) (slot_is true false s.slot s.p s.on.pacing s.stands) in
-    rw all (film_at (due_up s) next.stand)
-slot_at {waits = true} {between = true} {pending = Some taken} s next =
+-- what stands before a slot's parts
+abbrev StandsBefore : {waits between : Bool} {pending : Option ℕ} (s : PlaySlot waits between pending)
+    → AfterSlot s → Type 0
+StandsBefore {waits} {between} {pending} s next = StandAt (play_with s.p next.keep) s.p.sent next.plays (record {
+  end = next.come.end;
+  slots = with_pending pending next.come.slots;
+  parts = parts_in waits between s.p s.slot s.text ++ next.come.parts;
+})
+
+-- the bytes of a slot in which the reply that waits goes out
+reply_slot : {taken : ℕ} (s : PlaySlot true true (Some taken)) (next : AfterSlot s) → StandsBefore s next
+reply_slot {taken} s next =
     let q : PacerState = after_step true slot p in
     let is = on.pacing in
     let most : due_by p slot ≤ p.keep = due_most p slot is in
@@ -295,6 +292,18 @@ slot_at {waits = true} {between = true} {pending = Some taken} s next =
   where
     open s use {p, heard, slot, text, on, later, stands, held}
     open next use {keep, plays, come, ends, due, after, stand}
+
+-- the bytes of a slot, with the reply that waits
+pub slot_at : {waits between : Bool} {pending : Option ℕ} (s : PlaySlot waits between pending) (next : AfterSlot s)
+    → StandsBefore s next
+slot_at {waits = true} {pending = None} s next = absurd (true≢false s.held)
+slot_at {waits = false} {pending = Some taken} s next = absurd (true≢false (sym s.held.0))
+slot_at {waits = false} {pending = None} s next = film_at (due_up s) next.stand
+slot_at {waits = true} {between = false} {pending = Some taken} s next =
+    let all : step_end true (at_slot s.slot s.p) ≡ due_by s.p s.slot =
+    ap (λ (r : PacerState). r.sent) (slot_is true false s.slot s.p s.on.pacing s.stands) in
+    rw all (film_at (due_up s) next.stand)
+slot_at {waits = true} {between = true} {pending = Some taken} s next = reply_slot s next
 
 -- whether a reply is held up then
 pub slot_held : {waits between : Bool} {pending : Option ℕ} (s : PlaySlot waits between pending)

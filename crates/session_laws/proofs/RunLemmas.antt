@@ -15,7 +15,7 @@ use Rattle.session.specs.declared.commands.Ask.TheVariants.{Look as AskLook, Off
 use Rattle.session.specs.declared.play_requests.PlayRequest.{PlayRequest}
 use Rattle.session.specs.declared.play_requests.PlayRequest.TheVariants.{Resumed, New}
 use Rattle.session.specs.declared.states.AfterHalt.{AfterHalt}
-use Rattle.session.specs.declared.states.AfterHalt.TheVariants.{Paused, Torn}
+use Rattle.session.specs.declared.states.AfterHalt.TheVariants.{Paused}
 use Rattle.session.specs.declared.states.Awaited.TheVariants.{Play, Halt, Look, Offer}
 use Rattle.film_streams.specs.declared.stream_numbers.Counts.{Counts}
 use Rattle.session.specs.declared.states.Play.{Play as Played}
@@ -26,7 +26,7 @@ use Rattle.session.specs.RunRequests.{sending_of, IsRequestFor, counts_before, c
 use Rattle.film_streams.specs.Films.{IsFilmAt, OfFilm}
 use Rattle.film_streams.specs.StreamNumbers.{counts_after, identity_of}
 use Rattle.session.specs.Laws.{GoesOn}
-use Rattle.session.specs.Methods.{prepared_of}
+use Rattle.session.specs.Methods.{AsksHalt, prepared_of}
 use Rattle.pacer.specs.PacerStates.{next_boundary}
 use Rattle.session.specs.RequestSteps.{Hears, is_answered}
 use Rattle.session.specs.SessionStates.{SessionState}
@@ -34,6 +34,8 @@ use Rattle.session.proofs.InitialStateLemmas.{HeardMessage, heard_by}
 use Rattle.session.proofs.RequestCaseAnalysis.{Answer, Replies as RepliesAlone, SetsUp as SettlesSetup, StartsPlay}
 use Rattle.session.proofs.RequestCaseAnalysis.{HaltsPlay, StopsPlay, EndsSession, TakesLook, SeeksOffer, answer_to}
 use Rattle.session.proofs.RequestCaseAnalysis.{settled_init}
+use Rattle.session.proofs.InitialStateLemmas.{PlayInHand}
+use Rattle.rtsp_replies.specs.Replies.{session_text}
 use Rattle.session.proofs.ResumedPlayLemmas.{of_film}
 use Rattle.session_laws.proofs.RtpNumberLemmas.{identity_goes_on}
 
@@ -121,6 +123,22 @@ pub data RunsAs (old : SessionState) (ask : Ask) (new : SessionState) : Type 0 w
   AsksOffer : (plan : List Segment) (offers : Offers) (sequence : ℕ) → ask ≡ AskOffer plan offers
       → new ≡ record old { awaited = Offer sequence } → RunsAs old ask new
 
+-- the halt that a PAUSE or a TEARDOWN asks for
+abbrev halt_of : {old new : SessionState} {sequence : ℕ} {next : AfterHalt} {ask : Ask} (hand : PlayInHand old)
+    (is : AsksHalt old sequence hand.setup hand.play next ask new) → is_answered next ≡ true
+    → IsLeftBy hand.play.run is.keep next → AskedHalt old
+halt_of {old} {sequence = sequence} {next} hand is told left = record {
+  setup = hand.setup;
+  play = hand.play;
+  keep = is.keep;
+  next = next;
+  text = session_text sequence old.id;
+  playing = hand.playing;
+  told = told;
+  keep_is = is.keep_is;
+  left = left;
+}
+
 runs_by : (h : HeardMessage) → Answer h → RunsAs h.old h.ask h.new
 runs_by h (RepliesAlone reply is) = Replies _ h.old.tearing is.0 is.1
 runs_by h (SettlesSetup film taken setup asks is) = SetsUp _ setup (settled_init taken) is.0 is.1
@@ -140,33 +158,13 @@ runs_by h (StartsPlay play planned asks planned_is) =
       frames = refl;
     }) asks.command asks.state
 runs_by h (HaltsPlay taken hand is) =
-    Stops (record {
-      setup = hand.setup;
-      play = hand.play;
-      keep = is.asks.keep;
-      next = Paused is.left;
-      text = _;
-      playing = hand.playing;
-      told = refl;
-      keep_is = is.asks.keep_is;
-      left = record {
-        first = is.left_is.first_is;
-        end = is.left_is.end_is;
-        sent = is.left_is.sent_is ∙ ap (λ k. hand.play.run.sent + k) (sym is.asks.keep_is);
-      };
-    }) is.asks.command is.asks.state
-runs_by h (StopsPlay taken hand is) =
-    Stops (record {
-      setup = hand.setup;
-      play = hand.play;
-      keep = is.keep;
-      next = Torn;
-      text = _;
-      playing = hand.playing;
-      told = refl;
-      keep_is = is.keep_is;
-      left = tt;
-    }) is.command is.state
+    let left : IsLeft hand.play.run is.asks.keep is.left = record {
+      first = is.left_is.first_is;
+      end = is.left_is.end_is;
+      sent = is.left_is.sent_is ∙ ap (λ k. hand.play.run.sent + k) (sym is.asks.keep_is);
+    } in
+    Stops (halt_of hand is.asks refl left) is.asks.command is.asks.state
+runs_by h (StopsPlay taken hand is) = Stops (halt_of hand is refl tt) is.command is.state
 runs_by h (EndsSession taken is) = Replies _ true is.0 is.1
 runs_by h (TakesLook taken look) = AsksLook taken.request.sequence look.command look.state
 runs_by h (SeeksOffer offer planned is asks) =
