@@ -169,21 +169,14 @@ takings_piece old takings new takes = record {
 }
 
 abbrev pub event_piece : SessionState → Round → Piece
-event_piece session round = record {
-  requests = [];
-  askings = Asks (asked_by session round.event) round.halt ∷ [];
-  slots = [];
-  parts = round.due;
-  replies = [];
-}
+event_piece session round =
+    record (parts_piece round.due) { askings = Asks (asked_by session round.event) round.halt ∷ [] }
 
 abbrev pub round_piece : (old : Stage) (round : Round) (new : Stage) → Runs old round new → Piece
-round_piece old round new runs = record {
-  requests = takings_requests round.takings;
+round_piece old round new runs = record (takings_piece runs.opened round.takings new runs.takes) {
   askings = round_askings old round new runs;
   slots = takings_slots (max old.session.heard (slot_in round.event)) round.takings;
   parts = round_parts round;
-  replies = takings_replies runs.opened round.takings new runs.takes;
 }
 
 abbrev pub course_piece : (old : Stage) (rounds : List Round) (new : Stage) → IsCourseBetween old rounds new → Piece

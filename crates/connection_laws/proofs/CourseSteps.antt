@@ -309,13 +309,10 @@ slot_move {old} {slot = slot} stands (SlotSent sending later) =
     let heard : s.heard ≡ slot = reply_heard goes due in
     let waits : s.waits ≡ waits_after old.waits old.state slot = reply_waits goes due in
     let moves = slot_moves {waits = old.waits} old.state (record {
-      heard = old.heard;
-      slot = slot;
-      text = old.text;
+      now = record { heard = old.heard; slot = slot; text = old.text; later = later };
       pending = stands.paced.pending;
       sound = stands.paced.sound;
       held = stands.paced.held;
-      later = later;
     }) sending in
     record {
       after = record {

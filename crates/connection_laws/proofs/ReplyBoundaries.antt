@@ -2,8 +2,8 @@
 -- boundary from what was due when its request was processed.
 use Rattle.connection_laws.proofs.WaitingReplies.{Fits, GoesTo, IsHeld, Stand, after_slot, at_here, due_far, due_going}
 use Rattle.connection_laws.proofs.WaitingReplies.{due_here, goes_same, held_here, parts_in, slot_at, point, Point}
-use Rattle.connection_laws.proofs.WaitingReplies.{pending_then, piece_then, PlaySlot, slot_held, over_at}
-use Rattle.std.proofs.Common.{◌≡◌, ℕ, ◌+◌, ◌-◌, ◌<◌, ◌≤◌, ◌++◌, if◌then◌else◌, Bool, true, false, min, List, ◌∷◌}
+use Rattle.connection_laws.proofs.WaitingReplies.{pending_then, LaterSlot, piece_then, PlaySlot, slot_held, over_at}
+use Rattle.std.proofs.Common.{◌≡◌, ℕ, ◌+◌, ◌-◌, ◌≤◌, ◌++◌, if◌then◌else◌, Bool, true, false, min, List, ◌∷◌}
 use Rattle.std.proofs.Common.{Option, Some, None, length, refl, ap, sym, ◌∙◌, subst, inl, arith, []}
 use Rattle.conn.proofs.ReplyPlacement.{boundary_here}
 use Rattle.std.proofs.lemmas.Bool.{true≢false}
@@ -208,35 +208,32 @@ replying _ true heard text sound is = record {
 
 -- what is sent before a later slot is on time, with the reply that is held up
 pub record SlotStart (state : State) (waits : Bool) : Type 0 where
-  pub heard : ℕ
-  pub slot : ℕ
-  pub text : List ℕ
+  pub now : LaterSlot
   pub pending : Option ℕ
-  pub sound : IsSound (sends_in state) waits heard
-  pub held : IsHeld pending (sends_in state) waits heard
-  pub later : heard < slot
+  pub sound : IsSound (sends_in state) waits now.heard
+  pub held : IsHeld pending (sends_in state) waits now.heard
 
 pub record SlotMoves {state : State} {waits : Bool} (start : SlotStart state waits) : Type 0 where
   pub after : Option ℕ
-  pub sound : IsSound (sends_in (state_after_slot waits state start.slot)) (waits_after waits state start.slot) start.slot
-  pub held : IsHeld after (sends_in (state_after_slot waits state start.slot))
-      (waits_after waits state start.slot) start.slot
-  pub goes_on : GoesTo (point (sends_in state) start.heard start.pending)
-      (point (sends_in (state_after_slot waits state start.slot)) start.slot after)
-      (parts_piece (parts_of waits state start.text start.slot))
+  pub sound : IsSound (sends_in (state_after_slot waits state start.now.slot)) (waits_after waits state start.now.slot) start.now.slot
+  pub held : IsHeld after (sends_in (state_after_slot waits state start.now.slot))
+      (waits_after waits state start.now.slot) start.now.slot
+  pub goes_on : GoesTo (point (sends_in state) start.now.heard start.pending)
+      (point (sends_in (state_after_slot waits state start.now.slot)) start.now.slot after)
+      (parts_piece (parts_of waits state start.now.text start.now.slot))
 
 -- a later slot changes nothing else of what is to come
 slot_goes : {waits between : Bool} {pending : Option ℕ} {sends after : Sends} (s : PlaySlot waits between pending)
-    → ((askings : List StationRequest) (come : ToCome) → s.slot ≤ come.end
-    → Fits (point after s.slot (after_slot between pending)) askings come
-    → Stand sends askings (pending_then pending (piece_then (parts_piece (parts_in waits between s.p s.slot s.text)) come)))
-    → GoesTo (point sends s.heard pending) (point after s.slot (after_slot between pending))
-    (parts_piece (parts_in waits between s.p s.slot s.text))
+    → ((askings : List StationRequest) (come : ToCome) → s.now.slot ≤ come.end
+    → Fits (point after s.now.slot (after_slot between pending)) askings come
+    → Stand sends askings (pending_then pending (piece_then (parts_piece (parts_in waits between s.p s.now.slot s.now.text)) come)))
+    → GoesTo (point sends s.now.heard pending) (point after s.now.slot (after_slot between pending))
+    (parts_piece (parts_in waits between s.p s.now.slot s.now.text))
 slot_goes s stand = record {
-  later = omega (arith, s.later);
+  later = omega (arith, s.now.later);
   rest = λ askings come on fits. record {
-    from = from_lower s.heard s.slot come.slots (omega (arith, s.later)) fits.from;
-    later = later_lower s.heard s.slot (plays_of askings) (omega (arith, s.later)) fits.later;
+    from = from_lower s.now.heard s.now.slot come.slots (omega (arith, s.now.later)) fits.from;
+    later = later_lower s.now.heard s.now.slot (plays_of askings) (omega (arith, s.now.later)) fits.later;
     stand = stand askings come on fits;
   };
 }
@@ -244,9 +241,9 @@ slot_goes s stand = record {
 -- a play goes on
 going_goes : {waits between : Bool} {pending : Option ℕ} (s : PlaySlot waits between pending)
     → s.p.keep ≡ total_bytes s.p.plan
-    → GoesTo (point (Going s.p) s.heard pending)
-    (point (Going (sent_through s.slot s.p)) s.slot (after_slot between pending))
-    (parts_piece (parts_in waits between s.p s.slot s.text))
+    → GoesTo (point (Going s.p) s.now.heard pending)
+    (point (Going (sent_through s.now.slot s.p)) s.now.slot (after_slot between pending))
+    (parts_piece (parts_in waits between s.p s.now.slot s.now.text))
 going_goes s whole =
     slot_goes s (λ askings come on fits. slot_at s (record {
       keep = kept_in askings (total_bytes s.p.plan);
@@ -269,7 +266,7 @@ ends_same true slot p is stands = refl
 ends_same false slot p is stands = ap Ending (slot_is true false slot p is stands)
 
 ended_through : {pending : Option ℕ} (s : PlaySlot true true pending) → IsAtLast s.p
-    → (sent_through s.slot s.p).sent ≡ s.p.keep
+    → (sent_through s.now.slot s.p).sent ≡ s.p.keep
 ended_through s last =
     let through : IsOnTime (sent_through slot p) slot = through_time p heard slot on later in
     let one : PacerState = after_step true slot p in
@@ -281,43 +278,44 @@ ended_through s last =
     last (p.before + one.sent) boundary (omega (arith, next.after, on.pacing.sent)) in
     omega (arith, least, through.pacing.due)
   where
-    open s use {p, heard, slot, on, later, stands}
+    open s use {p, now, on, stands}
+    open now use {heard, slot, later}
 
 ending_sound : {between : Bool} {pending : Option ℕ} (s : PlaySlot true between pending) → IsAtLast s.p
-    → IsSound (ends_in between (sent_through s.slot s.p)) (if between then false else true) s.slot
+    → IsSound (ends_in between (sent_through s.now.slot s.p)) (if between then false else true) s.now.slot
 ending_sound {between = true} s last = tt
 ending_sound {between = false} s last = (
-  through_time s.p s.heard s.slot s.on s.later,
+  through_time s.p s.now.heard s.now.slot s.on s.now.later,
   refl,
   λ place boundary after. last place boundary (omega (arith, after, s.on.pacing.sent)),
 )
 
 ending_held : {between : Bool} {pending : Option ℕ} (s : PlaySlot true between pending)
-    → IsHeld (after_slot between pending) (ends_in between (sent_through s.slot s.p)) (if between then false else true)
-    s.slot
+    → IsHeld (after_slot between pending) (ends_in between (sent_through s.now.slot s.p)) (if between then false else true)
+    s.now.slot
 ending_held {pending = None} s = absurd (true≢false s.held)
 ending_held {between = true} {pending = Some taken} s = refl
 ending_held {between = false} {pending = Some taken} s = slot_held s
 
 ending_stand : {between : Bool} {pending : Option ℕ} {askings : List StationRequest} {come : ToCome}
-    (s : PlaySlot true between pending) → IsAtLast s.p → s.slot ≤ come.end
-    → Fits (point (ends_in between (sent_through s.slot s.p)) s.slot (after_slot between pending)) askings come
-    → StandAt (play_with s.p s.p.keep) (due_by s.p s.slot) (plays_of askings)
+    (s : PlaySlot true between pending) → IsAtLast s.p → s.now.slot ≤ come.end
+    → Fits (point (ends_in between (sent_through s.now.slot s.p)) s.now.slot (after_slot between pending)) askings come
+    → StandAt (play_with s.p s.p.keep) (due_by s.p s.now.slot) (plays_of askings)
     (pending_then (after_slot between pending) come)
 ending_stand {pending = None} s last ends fits = absurd (true≢false s.held)
 ending_stand {between = false} s last ends fits = fits.stand
 ending_stand {between = true} {pending = Some taken} s last ends fits =
     over_at (record {
-      p = sent_through s.slot s.p;
+      p = sent_through s.now.slot s.p;
       keep = s.p.keep;
-      on = through_time s.p s.heard s.slot s.on s.later;
+      on = through_time s.p s.now.heard s.now.slot s.on s.now.later;
       sent = ended_through s last;
     }) ends fits
 
 ending_goes : {between : Bool} {pending : Option ℕ} (s : PlaySlot true between pending) → IsAtLast s.p
-    → GoesTo (point (Ending s.p) s.heard pending)
-    (point (ends_in between (sent_through s.slot s.p)) s.slot (after_slot between pending))
-    (parts_piece (parts_in true between s.p s.slot s.text))
+    → GoesTo (point (Ending s.p) s.now.heard pending)
+    (point (ends_in between (sent_through s.now.slot s.p)) s.now.slot (after_slot between pending))
+    (parts_piece (parts_in true between s.p s.now.slot s.now.text))
 ending_goes s last =
     slot_goes s (λ askings come on fits. slot_at s (record {
       keep = s.p.keep;
@@ -336,19 +334,10 @@ as_going p heard (Some taken) held = held
 
 -- the slot of the play that is being sent
 abbrev play_slot : {state : State} {waits : Bool} (start : SlotStart state waits) (p : PacerState)
-    → IsOnTime p start.heard
-    → IsHeld start.pending (Going p) waits start.heard
-    → PlaySlot waits (stands_at_boundary (after_step true start.slot p)) start.pending
-play_slot start p on held = record {
-  p = p;
-  heard = start.heard;
-  slot = start.slot;
-  text = start.text;
-  on = on;
-  later = start.later;
-  stands = refl;
-  held = held;
-}
+    → IsOnTime p start.now.heard
+    → IsHeld start.pending (Going p) waits start.now.heard
+    → PlaySlot waits (stands_at_boundary (after_step true start.now.slot p)) start.pending
+play_slot start p on held = record { p = p; now = start.now; on = on; stands = refl; held = held }
 
 -- what is being sent
 pub slot_moves : {waits : Bool} (state : State) (start : SlotStart state waits) → is_sending state ≡ true
@@ -373,7 +362,8 @@ slot_moves {waits} (Playing setup play) start sending =
       goes_on = rw sends (going_goes s sound.1);
     }
   where
-    open start use {heard, slot, pending, sound, held, later}
+    open start use {now, pending, sound, held}
+    open now use {heard, slot, later}
 slot_moves {waits = false} (Stopping setup stop) start sending = absurd (true≢false (sym start.sound.1))
 slot_moves {waits = true} (Stopping setup stop) start sending =
     let p : PacerState = stop.pacer in
@@ -389,5 +379,6 @@ slot_moves {waits = true} (Stopping setup stop) start sending =
       goes_on = rw sends (ending_goes s sound.2);
     }
   where
-    open start use {heard, slot, pending, sound, held, later}
+    open start use {now, pending, sound, held}
+    open now use {heard, slot, later}
 slot_moves _ start sending = absurd (true≢false (sym sending))

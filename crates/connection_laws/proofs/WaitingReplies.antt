@@ -203,30 +203,34 @@ after_slot between (Some slot) = if between then None else Some slot
 due_most : (p : PacerState) (slot : ℕ) → IsPacerState p → due_by p slot ≤ p.keep
 due_most p slot is = omega (arith, is.due)
 
--- a later slot of a play on time, with the reply that is held up, and whether it stands at a boundary after it
-pub record PlaySlot (waits between : Bool) (pending : Option ℕ) : Type 0 where
-  pub p : PacerState
+-- a later slot than the last one that was received, and the reply that is held up
+pub record LaterSlot : Type 0 where
   pub heard : ℕ
   pub slot : ℕ
   pub text : List ℕ
-  pub on : IsOnTime p heard
   pub later : heard < slot
-  pub stands : stands_at_boundary (after_step true slot p) ≡ between
-  pub held : IsHeld pending (Going p) waits heard
+
+-- such a slot of a play on time, and whether the play stands at a boundary after it
+pub record PlaySlot (waits between : Bool) (pending : Option ℕ) : Type 0 where
+  pub p : PacerState
+  pub now : LaterSlot
+  pub on : IsOnTime p now.heard
+  pub stands : stands_at_boundary (after_step true now.slot p) ≡ between
+  pub held : IsHeld pending (Going p) waits now.heard
 
 -- what is kept of the play, and what is to come after the slot
 pub record AfterSlot {waits between : Bool} {pending : Option ℕ} (s : PlaySlot waits between pending) : Type 0 where
   pub keep : ℕ
   pub plays : List FilmPlay
   pub come : ToCome
-  pub ends : s.slot ≤ come.end
+  pub ends : s.now.slot ≤ come.end
   pub due : (taken : ℕ) → min (first_slots s.p.plan (taken + 1 - s.p.start)) s.p.keep ≤ keep
       → due_of taken (play_with s.p keep) ≡ min (first_slots s.p.plan (taken + 1 - s.p.start)) s.p.keep
-  pub after : AreLater s.slot plays
-  pub stand : StandAt (play_with s.p keep) (due_by s.p s.slot) plays (pending_then (after_slot between pending) come)
+  pub after : AreLater s.now.slot plays
+  pub stand : StandAt (play_with s.p keep) (due_by s.p s.now.slot) plays (pending_then (after_slot between pending) come)
 
 -- the first boundary from what was due on is reached
-next_reached : {taken : ℕ} (s : PlaySlot true true (Some taken)) → IsAtNext (after_step true s.slot s.p)
+next_reached : {taken : ℕ} (s : PlaySlot true true (Some taken)) → IsAtNext (after_step true s.now.slot s.p)
     (min (first_slots s.p.plan (taken + 1 - s.p.start)) s.p.keep)
 next_reached s =
     let is = on.pacing in
@@ -240,15 +244,16 @@ next_reached s =
           omega (arith, least, next.after);
     }
   where
-    open s use {p, slot, on, stands, held}
+    open s use {p, now, on, stands, held}
+    open now use {slot}
 
 -- all that is due
 abbrev due_up : {waits between : Bool} {pending : Option ℕ} (s : PlaySlot waits between pending) → UpTo s.p
 due_up s = record {
-  to = due_by s.p s.slot;
+  to = due_by s.p s.now.slot;
   pacing = s.on.pacing;
   from = omega (arith, s.on.pacing.sent);
-  most = due_most s.p s.slot s.on.pacing;
+  most = due_most s.p s.now.slot s.on.pacing;
 }
 
 -- what stands before a slot's parts
@@ -257,7 +262,7 @@ abbrev StandsBefore : {waits between : Bool} {pending : Option ℕ} (s : PlaySlo
 StandsBefore {waits} {between} {pending} s next = StandAt (play_with s.p next.keep) s.p.sent next.plays (record {
   end = next.come.end;
   slots = with_pending pending next.come.slots;
-  parts = parts_in waits between s.p s.slot s.text ++ next.come.parts;
+  parts = parts_in waits between s.p s.now.slot s.now.text ++ next.come.parts;
 })
 
 -- the bytes of a slot in which the reply that waits goes out
@@ -290,7 +295,8 @@ reply_slot {taken} s next =
     film_at {p = p} {keep = keep}
     (record { to = q.sent; pacing = is; from = from; most = omega (arith, to, most) }) reply
   where
-    open s use {p, heard, slot, text, on, later, stands, held}
+    open s use {p, now, on, stands, held}
+    open now use {heard, slot, text, later}
     open next use {keep, plays, come, ends, due, after, stand}
 
 -- the bytes of a slot, with the reply that waits
@@ -300,15 +306,15 @@ slot_at {waits = true} {pending = None} s next = absurd (true≢false s.held)
 slot_at {waits = false} {pending = Some taken} s next = absurd (true≢false (sym s.held.0))
 slot_at {waits = false} {pending = None} s next = film_at (due_up s) next.stand
 slot_at {waits = true} {between = false} {pending = Some taken} s next =
-    let all : step_end true (at_slot s.slot s.p) ≡ due_by s.p s.slot =
-    ap (λ (r : PacerState). r.sent) (slot_is true false s.slot s.p s.on.pacing s.stands) in
+    let all : step_end true (at_slot s.now.slot s.p) ≡ due_by s.p s.now.slot =
+    ap (λ (r : PacerState). r.sent) (slot_is true false s.now.slot s.p s.on.pacing s.stands) in
     rw all (film_at (due_up s) next.stand)
 slot_at {waits = true} {between = true} {pending = Some taken} s next = reply_slot s next
 
 -- whether a reply is held up then
 pub slot_held : {waits between : Bool} {pending : Option ℕ} (s : PlaySlot waits between pending)
-    → IsHeld (after_slot between pending) (Going (sent_through s.slot s.p)) (if waits && between then false else waits)
-    s.slot
+    → IsHeld (after_slot between pending) (Going (sent_through s.now.slot s.p)) (if waits && between then false else waits)
+    s.now.slot
 slot_held {waits = true} {pending = None} s = absurd (true≢false s.held)
 slot_held {waits = false} {pending = Some taken} s = absurd (true≢false (sym s.held.0))
 slot_held {waits = true} {between = false} {pending = Some taken} s =
@@ -334,7 +340,8 @@ slot_held {waits = true} {between = false} {pending = Some taken} s =
       },
     )
   where
-    open s use {p, slot, on, later, stands, held}
+    open s use {p, now, on, stands, held}
+    open now use {slot, later}
 
     is : IsPacerState p
     is = on.pacing

@@ -4,10 +4,10 @@ ghost use Rattle.std.specs.Prelude.{◌≡◌, ◌⊎◌, ℕ, List, true};
 ghost use Rattle.session_laws.specs.EndLaws.{CanBePaused, CanBeTornDown, HasTeardown, IsPause};
 ghost use Rattle.session_laws.specs.EndLaws.{IsPausedPlay, IsTornDown};
 ghost use Rattle.session.specs.Laws.{IsTeardown};
-ghost use Rattle.session.specs.RequestSteps.{new_session_state};
 ghost use Rattle.session.specs.LookLaws.{AreAfter, SessionEvent};
 ghost use Rattle.session_laws.specs.PlayLaws.{IsDeclined};
 ghost use Rattle.session_laws.specs.SessionTerms.{Ask, Hears, SessionState, Settings, Stored};
+ghost use Rattle.session_laws.specs.SessionTerms.{new_session_state};
 
 /// A TEARDOWN that isn't refused halts the play that is sent, if there is one, and the session is
 /// over once its reply was sent. One that names the session and its film, and requires no option,

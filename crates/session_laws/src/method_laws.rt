@@ -5,7 +5,7 @@ ghost use Rattle.std.specs.Prelude.{◌≡◌, ◌⊎◌, ℕ, List, [], None, O
 ghost use Rattle.rtsp_fields.specs.declared.transports.Channels.{Channels};
 ghost use Rattle.rtsp_text.specs.Fields.{header_value};
 ghost use Rattle.rtsp_text.specs.Replies.{reply_text};
-ghost use Rattle.session.specs.declared.states.State.TheVariants.{Init, Playing, Ready};
+ghost use Rattle.session.specs.declared.states.State.TheVariants.{Init};
 ghost use Rattle.session_laws.specs.MethodLaws.{AnswersAlone, GivesChannels, HasBadNumber};
 ghost use Rattle.session_laws.specs.MethodLaws.{IsDescribeRequest, IsFilmDescribed, IsFilmMethod};
 ghost use Rattle.session_laws.specs.MethodLaws.{IsLookAsked, IsOfferAskedOf, IsOptionsAnswered};
@@ -17,10 +17,9 @@ ghost use Rattle.session_laws.specs.MethodLaws.{NamesSession, PlanRefusal, Settl
 ghost use Rattle.session.specs.OfferLaws.{IsWaitIn};
 ghost use Rattle.session_laws.specs.RefusalLaws.{IsKnownMethod, IsRefusedBy, RequiresSomeOption};
 ghost use Rattle.rtsp_methods.specs.Methods.{IsWord};
-ghost use Rattle.film_streams.specs.SettingRanges.{AreFilms};
-ghost use Rattle.session_laws.specs.SessionTerms.{Ask, HasCode, Hears, IsPlannedRun, IsReadAs};
-ghost use Rattle.session_laws.specs.SessionTerms.{Planned, Played, Request, Run, SessionState};
-ghost use Rattle.session_laws.specs.SessionTerms.{Setup, Stored};
+ghost use Rattle.session_laws.specs.SessionTerms.{AreFilms, Ask, HasCode, Hears, IsPlannedRun};
+ghost use Rattle.session_laws.specs.SessionTerms.{IsReadAs, Planned, Played, Playing, Ready};
+ghost use Rattle.session_laws.specs.SessionTerms.{Request, Run, SessionState, Setup, Stored};
 
 /// An OPTIONS that requires no option is answered 200 with the list of methods, in any state,
 /// whatever its URL and its Session are (RFC 2326 section 10.1).

@@ -13,8 +13,8 @@ ghost use Rattle.session.specs.OfferLaws.{IsOfferReply};
 ghost use Rattle.session.specs.RequestedPlans.{HasNoPlan};
 ghost use Rattle.session.specs.RunRequests.{playback_of, run_of};
 ghost use Rattle.rtsp_replies.specs.Replies.{refusal_text};
-ghost use Rattle.session.specs.SessionStates.{sequence_of};
 ghost use Rattle.session_laws.specs.SessionTerms.{Ask, Hears, Run, SessionState, Setup};
+ghost use Rattle.session_laws.specs.SessionTerms.{sequence_of};
 
 /// An offer is asked of the station exactly as its request has it: in Ready, with the plan of a
 /// PLAY without a Range and the wait that its `x-Wait` names, and nothing else changes. The reply

@@ -3,11 +3,8 @@
 ghost use Rattle.std.specs.Prelude.{◌≡◌, ◌<◌, ◌≤◌, ◌+◌, ◌^◌, ℕ, true, false, List};
 ghost use Rattle.plan_cert.specs.PlanSlots.{total_bytes};
 ghost use Rattle.rtsp_methods.specs.declared.methods.Method.TheVariants.{Play as PlayMethod};
-ghost use Rattle.session.specs.declared.states.State.TheVariants.{Playing};
 ghost use Rattle.session.specs.RequestEffects.{IsPlayAsked};
-ghost use Rattle.session.specs.RunRequests.{sending_of};
 ghost use Rattle.film_streams.specs.Films.{IsFilmAt};
-ghost use Rattle.film_streams.specs.StreamNumbers.{identity_of};
 ghost use Rattle.session.specs.RequestSteps.{after_admission, after_halt, is_answered};
 ghost use Rattle.session_laws.specs.PlayLaws.{HasCountedAll, HasRangeInPlaying};
 ghost use Rattle.session_laws.specs.PlayLaws.{PassesEarlierChecks, IsNoted, IsDeclined};
@@ -16,8 +13,9 @@ ghost use Rattle.session.specs.SessionInvariant.{IsSoundState};
 ghost use Rattle.session.specs.SlotSteps.{after_play, is_sending, is_taken, kept_of, next_of};
 ghost use Rattle.session.specs.SlotSteps.{after_slot, start_in};
 ghost use Rattle.session.specs.SessionStates.{AwaitsNoAnswer, HaltAnswer, awaited_answer};
-ghost use Rattle.session_laws.specs.SessionTerms.{Ask, HasCode, Hears, Played, Request};
-ghost use Rattle.session_laws.specs.SessionTerms.{SessionState, Setup, Stored};
+ghost use Rattle.session_laws.specs.SessionTerms.{Ask, HasCode, Hears, Played, Playing, Request};
+ghost use Rattle.session_laws.specs.SessionTerms.{SessionState, Setup, Stored, identity_of};
+ghost use Rattle.session_laws.specs.SessionTerms.{sending_of};
 
 /// A PLAY with a Range in Playing is refused: by 455, where no other refusal comes before (RFC 2326
 /// section 10.5 and appendix A.2).
