@@ -22,7 +22,7 @@ use Rattle.film_streams.specs.declared.setups.Setup.{Setup}
 use Rattle.film_streams.specs.declared.stream_numbers.StreamSource.{StreamSource}
 use Rattle.session.specs.RunRequests.{IsPlayable, playback_of as session_playback}
 use Rattle.connection_laws.specs.WholePlays.{IsSetUpFor, playback_of, whole_run, film_blocks}
-use Rattle.film_frames.specs.FramedRuns.{run_of, run_pieces}
+use Rattle.film_frames.specs.FramedRuns.{run_pieces}
 use Rattle.film_run.specs.declared.runs.Run.{Run}
 use Rattle.mpeg_scan.specs.PictureRates.{picture_time}
 use Rattle.rtp_pack.specs.declared.reports.Identity.{Identity}
