@@ -2,7 +2,7 @@
 use Rattle.std.proofs.Common.{◌≡◌, ℕ, ◌++◌, Bool, true, false, List, [], ◌∷◌, map, refl, ap, sym, ◌∙◌, subst, inl, inr}
 use Rattle.std.proofs.Common.{ap₂}
 use Rattle.std.proofs.lemmas.Bool.{true≢false}
-use Rattle.std.proofs.lemmas.List.{append-nil, append_assoc}
+use Rattle.std.proofs.lemmas.List.{append-nil, append_assoc, map-append}
 use Rattle.vod_base.specs.Links.{IoEvent, HeardBytes, HeardSlot}
 use Rattle.film_frames.specs.declared.stored_films.Stored.{Stored}
 use Rattle.film_streams.specs.SettingRanges.{AreFilms}
@@ -80,14 +80,10 @@ legs_answers legs = (legs_exchange legs).answers
 abbrev legs_hearings : List Leg → List HeardRequest
 legs_hearings legs = (legs_exchange legs).hearings
 
-heard_append : (xs ys : List ℕ) → bytes_heard (xs ++ ys) ≡ bytes_heard xs ++ bytes_heard ys
-heard_append [] ys = refl
-heard_append (x ∷ xs) ys = ap (λ ds. HeardBytes (x ∷ []) ∷ ds) (heard_append xs ys)
-
 elements_join : (xs ys : List ℕ) (one two : List Element)
     → elements_exchange (xs ++ ys) (one ++ two) ≡ joined (elements_exchange xs one) (elements_exchange ys two)
 elements_join xs ys one two =
-    ap₂ (λ hs (e : Exchange). record e { heard = hs }) (heard_append xs ys) (join_exchange one two)
+    ap₂ (λ hs (e : Exchange). record e { heard = hs }) (map-append (λ (byte : ℕ). HeardBytes (byte ∷ [])) xs ys) (join_exchange one two)
 
 -- a course from a place on: the bytes that came before the next slot, and then slot after slot
 record Split (base new : Stage) (all : Exchange) : Type 0 where

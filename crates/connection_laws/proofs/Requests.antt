@@ -2,7 +2,7 @@
 -- first of them, each complete.
 use Rattle.std.proofs.Common.{◌≡◌, ◌⊎◌, ℕ, ◌<◌, ◌++◌, ◌||◌, ◌==◌, if◌then◌else◌, Bool, true, false, List, ◌∷◌, Ok, Err}
 use Rattle.std.proofs.Common.{length, take, drop, map, get_or, refl, ap, sym, ◌∙◌, subst, inl, inr, arith, []}
-use Rattle.std.proofs.lemmas.List.{append-nil, append_assoc, get_or-take, drop_at, take-append-drop, take_at}
+use Rattle.std.proofs.lemmas.List.{append-nil, append_assoc, get_or-take, drop_at, take-append-drop, take_at, map-append}
 use Rattle.vod_base.specs.Links.{IoEvent, HeardBytes, HeardSlot}
 use Rattle.interleave.specs.Heads.{is_line_end}
 use Rattle.interleave.specs.Elements.{IsFirst, StartsMessage}
@@ -15,7 +15,7 @@ use Rattle.conn.specs.InputSteps.{Answered, Outcome, SentPart, Passed, Stage, El
 use Rattle.conn.specs.declared.reports.ConnEnd.{ConnEnd}
 use Rattle.conn.specs.declared.reports.ConnEnd.TheVariants.{TornDown, HeadTooLong, BodyTooLong}
 use Rattle.connection_laws.specs.Courses.{IsCourseBetween, first_stage, Course}
-use Rattle.connection_laws.specs.InputSplits.{Beginning, InputSplit, HeardRequest, IsDrained, TakesUp}
+use Rattle.connection_laws.specs.InputSplits.{Beginning, InputSplit, IsDrained, TakesUp}
 use Rattle.connection_laws.specs.InputSplits.{heard_requests_in, heard_requests_taken}
 use Rattle.connection_laws.specs.Requests.{AreTaken, AwaitsReply, bytes_in, is_no_request, message_of, requests_in}
 use Rattle.connection_laws.specs.Requests.{rounds_input}
@@ -104,10 +104,6 @@ comes_input old opened (HeardBytes bytes) due halt comes = ap (λ (s : Stage). s
 comes_input old opened (HeardSlot slot) due halt comes = comes.0 ∙ sym (append-nil old.input)
 comes_input old opened _ due halt comes = absurd comes
 
-hearings_map : (xs ys : List HeardRequest) → map message_of (xs ++ ys) ≡ map message_of xs ++ map message_of ys
-hearings_map [] ys = refl
-hearings_map (x ∷ xs) ys = ap (λ ms. x.message ∷ ms) (hearings_map xs ys)
-
 -- what was received by a stage
 pub record HeardCut (old : Stage) (messages : List (List ℕ)) : Type 0 where
   pub heard : List ℕ
@@ -126,7 +122,7 @@ rounds_heard : (old new : Stage) (rounds : List Round) (takes : TakesUp old roun
 rounds_heard old new [] takes = refl
 rounds_heard old new (round ∷ rounds) takes =
     let runs = takes.1.0 in
-    hearings_map (heard_requests_taken runs.opened round.takings takes.0 runs.takes)
+    map-append message_of (heard_requests_taken runs.opened round.takings takes.0 runs.takes)
     (heard_requests_in takes.0 rounds new takes.1.2)
     ∙ ap (λ ms. ms ++ map message_of (heard_requests_in takes.0 rounds new takes.1.2))
     (takings_heard runs.opened takes.0 round.takings runs.takes)

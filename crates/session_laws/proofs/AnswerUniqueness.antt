@@ -73,65 +73,68 @@ Agree w = IsOneAnswer w.old w.message w.ask w.one w.again w.other
 abbrev second_of : TwoHearings → HeardMessage
 second_of w = record { old = w.old; new = w.other; message = w.message; ask = w.again; hears = w.its }
 
-same : (w : TwoHearings) → w.again ≡ w.ask → w.other ≡ w.one → Agree w
-same w command session = inl (record { ask_is = command; session_is = session })
+-- a message that was received twice
+module _ (w : TwoHearings) where
+  open w use {old, one, other, ask, again}
 
-replied_once : (w : TwoHearings) (text text' : List ℕ) → text' ≡ text → IsReplied w.old text w.ask w.one
-    → IsReplied w.old text' w.again w.other → Agree w
-replied_once w text text' alike is its =
-    same w (its.0 ∙ sym is.0) (its.1 ∙ ap (λ t. with_reply w.old t) alike ∙ sym is.1)
+  same : again ≡ ask → other ≡ one → Agree w
+  same command session = inl (record { ask_is = command; session_is = session })
 
-describes_once : (w : TwoHearings) (sequence film : ℕ) (authority : List ℕ)
-    → Describes w.old sequence film authority w.ask w.one
-    → Describes w.old sequence film authority w.again w.other → Agree w
-describes_once w sequence film authority is its =
-    replied_once w _ _ (ap (λ (s : Stored). describe_text sequence authority (string_bytes s.name) (length_ms s.film))
-    (film_at_once w.old.films film is.stored its.stored is.at its.at)) is.reply its.reply
+  replied_once : (text text' : List ℕ) → text' ≡ text → IsReplied old text ask one
+      → IsReplied old text' again other → Agree w
+  replied_once text text' alike is its =
+      same (its.0 ∙ sym is.0) (its.1 ∙ ap (λ t. with_reply old t) alike ∙ sym is.1)
 
-set_up_once : (w : TwoHearings) (sequence : ℕ) (read : Result Setup Refusal) → IsSetUp w.old sequence read w.ask w.one
-    → IsSetUp w.old sequence read w.again w.other → Agree w
-set_up_once w sequence (Ok setup) is its = same w (its.0 ∙ sym is.0) (its.1 ∙ sym is.1)
-set_up_once w sequence (Err refusal) is its = replied_once w _ _ refl is its
+  describes_once : (sequence film : ℕ) (authority : List ℕ) → Describes old sequence film authority ask one
+      → Describes old sequence film authority again other → Agree w
+  describes_once sequence film authority is its =
+      replied_once _ _ (ap (λ (s : Stored). describe_text sequence authority (string_bytes s.name) (length_ms s.film))
+      (film_at_once old.films film is.stored its.stored is.at its.at)) is.reply its.reply
 
--- a play of which a halt is asked, by a request of this number
-record HaltCall : Type 0 where
-  sequence : ℕ
-  setup : Setup
-  play : Played
-  next : AfterHalt
+  set_up_once : (sequence : ℕ) (read : Result Setup Refusal) → IsSetUp old sequence read ask one
+      → IsSetUp old sequence read again other → Agree w
+  set_up_once sequence (Ok setup) is its = same (its.0 ∙ sym is.0) (its.1 ∙ sym is.1)
+  set_up_once sequence (Err refusal) is its = replied_once _ _ refl is its
 
-halts_once : (w : TwoHearings) (c : HaltCall) → AsksHalt w.old c.sequence c.setup c.play c.next w.ask w.one
-    → AsksHalt w.old c.sequence c.setup c.play c.next w.again w.other → Agree w
-halts_once w c is its =
-    let keep = its.keep_is ∙ sym is.keep_is in
-    same w (its.command ∙ ap (λ n. AskHalt n) keep ∙ sym is.command)
-    (its.state ∙ ap (λ (n : ℕ). record w.old {
-      state = Playing c.setup (record c.play { pacer = record c.play.pacer { keep = n } });
-      awaited = Halt n c.next;
-      text = session_text c.sequence w.old.id;
-    }) keep ∙ sym is.state)
+  -- a play of which a halt is asked, by a request of this number
+  record HaltCall : Type 0 where
+    sequence : ℕ
+    setup : Setup
+    play : Played
+    next : AfterHalt
 
-tears_once : (w : TwoHearings) (state : State) (sequence : ℕ) → TearsDown state w.old sequence w.ask w.one
-    → TearsDown state w.old sequence w.again w.other → Agree w
-tears_once w (Playing setup play) sequence is its =
-    halts_once w (record { sequence = sequence; setup = setup; play = play; next = Torn }) is its
-tears_once w _ sequence is its = same w (its.0 ∙ sym is.0) (its.1 ∙ sym is.1)
+  halts_once : (c : HaltCall) → AsksHalt old c.sequence c.setup c.play c.next ask one
+      → AsksHalt old c.sequence c.setup c.play c.next again other → Agree w
+  halts_once c is its =
+      let keep = its.keep_is ∙ sym is.keep_is in
+      same (its.command ∙ ap (λ n. AskHalt n) keep ∙ sym is.command)
+      (its.state ∙ ap (λ (n : ℕ). record old {
+        state = Playing c.setup (record c.play { pacer = record c.play.pacer { keep = n } });
+        awaited = Halt n c.next;
+        text = session_text c.sequence old.id;
+      }) keep ∙ sym is.state)
 
-pauses_play_once : (w : TwoHearings) (sequence : ℕ) (setup : Setup) (play : Played)
-    → PausesPlay w.old sequence setup play w.ask w.one → PausesPlay w.old sequence setup play w.again w.other → Agree w
-pauses_play_once w sequence setup play is its =
-    let film = film_at_once w.old.films setup.film is.stored its.stored is.at its.at in
-    let last = through_once is.last its.last (its.last_is ∙ sym is.last_is) in
-    let L : Stored → Option ℕ → Type 0 = λ s l. IsRemainingRun (stored_sizes s)
-    (playback_of s.film w.old.settings setup) play.run play.plan l (next_boundary play.pacer) its.left in
-    let left = subst (L is.stored) last (subst (λ s. L s its.last) film its.left_is) in
-    halts_once w (record { sequence = sequence; setup = setup; play = play; next = Paused is.left }) is.asks
-    (subst (λ r. AsksHalt w.old sequence setup play (Paused r) w.again w.other) (left-one is.left_is left) its.asks)
+  tears_once : (state : State) (sequence : ℕ) → TearsDown state old sequence ask one
+      → TearsDown state old sequence again other → Agree w
+  tears_once (Playing setup play) sequence is its =
+      halts_once (record { sequence = sequence; setup = setup; play = play; next = Torn }) is its
+  tears_once _ sequence is its = same (its.0 ∙ sym is.0) (its.1 ∙ sym is.1)
 
-pauses_once : (w : TwoHearings) (state : State) (sequence : ℕ) → Pauses state w.old sequence w.ask w.one
-    → Pauses state w.old sequence w.again w.other → Agree w
-pauses_once w (Playing setup play) sequence is its = pauses_play_once w sequence setup play is its
-pauses_once w _ sequence is its = absurd is
+  pauses_play_once : (sequence : ℕ) (setup : Setup) (play : Played)
+      → PausesPlay old sequence setup play ask one → PausesPlay old sequence setup play again other → Agree w
+  pauses_play_once sequence setup play is its =
+      let film = film_at_once old.films setup.film is.stored its.stored is.at its.at in
+      let last = through_once is.last its.last (its.last_is ∙ sym is.last_is) in
+      let L : Stored → Option ℕ → Type 0 = λ s l. IsRemainingRun (stored_sizes s)
+      (playback_of s.film old.settings setup) play.run play.plan l (next_boundary play.pacer) its.left in
+      let left = subst (L is.stored) last (subst (λ s. L s its.last) film its.left_is) in
+      halts_once (record { sequence = sequence; setup = setup; play = play; next = Paused is.left }) is.asks
+      (subst (λ r. AsksHalt old sequence setup play (Paused r) again other) (left-one is.left_is left) its.asks)
+
+  pauses_once : (state : State) (sequence : ℕ) → Pauses state old sequence ask one
+      → Pauses state old sequence again other → Agree w
+  pauses_once (Playing setup play) sequence is its = pauses_play_once sequence setup play is its
+  pauses_once _ sequence is its = absurd is
 
 -- the request that it was, as it was read each time
 record TwoRequests : Type 0 where
@@ -141,162 +144,160 @@ record TwoRequests : Type 0 where
   alike : AreAlike request other
   number : first_sequence w.message ≡ Some request.sequence
 
--- memory ran out for it, the one time or the other
-first_wants : (r : TwoRequests) → IsRefused r.w.old (Some r.request.sequence) Memory [] r.w.ask r.w.one → Agree r.w
-first_wants r is = inr (inl (subst (λ s. IsRefused r.w.old s Memory [] r.w.ask r.w.one) (sym r.number) is))
+module _ (r : TwoRequests) where
+  open r use {w, request, other as reread, alike, number}
+  open w use {old, one, other, ask, again}
 
-second_wants : (r : TwoRequests) → IsRefused r.w.old (Some r.request.sequence) Memory [] r.w.again r.w.other
-    → Agree r.w
-second_wants r is = inr (inr (subst (λ s. IsRefused r.w.old s Memory [] r.w.again r.w.other) (sym r.number) is))
+  -- memory ran out for it, the one time or the other
+  first_wants : IsRefused old (Some request.sequence) Memory [] ask one → Agree w
+  first_wants is = inr (inl (subst (λ s. IsRefused old s Memory [] ask one) (sym number) is))
 
-play_or_once : (r : TwoRequests) (authority : List ℕ) (setup : Setup) (planned : Result Planned Refusal)
-    → AsksPlayOr r.w.old (play_call r.request.sequence authority setup) planned r.w.ask r.w.one
-    → AsksPlayOr r.w.old (play_call r.request.sequence authority setup) planned r.w.again r.w.other → Agree r.w
-play_or_once r authority setup (Ok planned) (inl is) (inl its) =
-    same r.w (its.command ∙ sym is.command)
-    (its.state ∙ ap (λ (s : Stored). record r.w.old {
-      awaited = Play (prepared_of r.w.old s setup planned r.request.sequence);
-      text = play_front r.w.old s setup planned r.request.sequence authority;
-    }) (film_at_once r.w.old.films setup.film is.stored its.stored is.at its.at) ∙ sym is.state)
-play_or_once r authority setup (Ok planned) (inl is) (inr its) = second_wants r its
-play_or_once r authority setup (Ok planned) (inr is) its = first_wants r is
-play_or_once r authority setup (Err refusal) is its = replied_once r.w _ _ refl is its
+  second_wants : IsRefused old (Some request.sequence) Memory [] again other → Agree w
+  second_wants is = inr (inr (subst (λ s. IsRefused old s Memory [] again other) (sym number) is))
 
-looks_once : (r : TwoRequests) → Looks r.w.old r.request.sequence r.w.ask r.w.one
-    → Looks r.w.old r.request.sequence r.w.again r.w.other → Agree r.w
-looks_once r (inl is) (inl its) = same r.w (its.command ∙ sym is.command) (its.state ∙ sym is.state)
-looks_once r (inl is) (inr its) = second_wants r its.refused
-looks_once r (inr is) its = first_wants r is.refused
+  play_or_once : (authority : List ℕ) (setup : Setup) (planned : Result Planned Refusal)
+      → AsksPlayOr old (play_call request.sequence authority setup) planned ask one
+      → AsksPlayOr old (play_call request.sequence authority setup) planned again other → Agree w
+  play_or_once authority setup (Ok planned) (inl is) (inl its) =
+      same w (its.command ∙ sym is.command)
+      (its.state ∙ ap (λ (s : Stored). record old {
+        awaited = Play (prepared_of old s setup planned request.sequence);
+        text = play_front old s setup planned request.sequence authority;
+      }) (film_at_once old.films setup.film is.stored its.stored is.at its.at) ∙ sym is.state)
+  play_or_once authority setup (Ok planned) (inl is) (inr its) = second_wants its
+  play_or_once authority setup (Ok planned) (inr is) its = first_wants is
+  play_or_once authority setup (Err refusal) is its = replied_once w _ _ refl is its
 
-offer_or_once : (r : TwoRequests) (wait : ℕ) (planned : Result Planned Refusal)
-    → AsksOfferOr r.w.old r.request.sequence wait planned r.w.ask r.w.one
-    → AsksOfferOr r.w.old r.request.sequence wait planned r.w.again r.w.other → Agree r.w
-offer_or_once r wait (Ok planned) (inl is) (inl its) =
-    let offers = found_once is.offers its.offers (its.wait_is ∙ sym is.wait_is) (its.start_is ∙ sym is.start_is)
-    (its.tried_is ∙ sym is.tried_is) in
-    same r.w (its.command ∙ ap (λ o. AskOffer planned.plan o) offers ∙ sym is.command) (its.state ∙ sym is.state)
-offer_or_once r wait (Ok planned) (inl is) (inr its) = second_wants r its
-offer_or_once r wait (Ok planned) (inr is) its = first_wants r is
-offer_or_once r wait (Err refusal) is its = replied_once r.w _ _ refl is its
+  looks_once : Looks old request.sequence ask one → Looks old request.sequence again other → Agree w
+  looks_once (inl is) (inl its) = same w (its.command ∙ sym is.command) (its.state ∙ sym is.state)
+  looks_once (inl is) (inr its) = second_wants its.refused
+  looks_once (inr is) its = first_wants is.refused
 
-offers_in_once : {wait : ℕ} {setup : Setup} {paused : Option Run} (r : TwoRequests)
-    → OffersReady r.w.old r.request.sequence wait setup paused r.w.ask r.w.one
-    → OffersReady r.w.old r.request.sequence wait setup paused r.w.again r.w.other → Agree r.w
-offers_in_once {wait} {setup} {paused} r is its =
-    elim (planned_once (record { old = r.w.old; setup = setup; paused = paused; range = None }) is.planned its.planned
-    is.is_planned its.is_planned) [
-      | inl alike ↦ offer_or_once r wait is.planned is.asks
-          (subst (λ p. AsksOfferOr r.w.old r.request.sequence wait p r.w.again r.w.other) alike its.asks)
-      | inr lacks ↦ elim lacks [
-        | inl first ↦ first_wants r
-            (subst (λ p. AsksOfferOr r.w.old r.request.sequence wait p r.w.ask r.w.one) first is.asks)
-        | inr second ↦ second_wants r
-            (subst (λ p. AsksOfferOr r.w.old r.request.sequence wait p r.w.again r.w.other) second its.asks)
+  offer_or_once : (wait : ℕ) (planned : Result Planned Refusal)
+      → AsksOfferOr old request.sequence wait planned ask one
+      → AsksOfferOr old request.sequence wait planned again other → Agree w
+  offer_or_once wait (Ok planned) (inl is) (inl its) =
+      let offers = found_once is.offers its.offers (its.wait_is ∙ sym is.wait_is) (its.start_is ∙ sym is.start_is)
+      (its.tried_is ∙ sym is.tried_is) in
+      same w (its.command ∙ ap (λ o. AskOffer planned.plan o) offers ∙ sym is.command) (its.state ∙ sym is.state)
+  offer_or_once wait (Ok planned) (inl is) (inr its) = second_wants its
+  offer_or_once wait (Ok planned) (inr is) its = first_wants is
+  offer_or_once wait (Err refusal) is its = replied_once w _ _ refl is its
+
+  offers_in_once : {wait : ℕ} {setup : Setup} {paused : Option Run}
+      → OffersReady old request.sequence wait setup paused ask one
+      → OffersReady old request.sequence wait setup paused again other → Agree w
+  offers_in_once {wait} {setup} {paused} is its =
+      elim (planned_once (record { old = old; setup = setup; paused = paused; range = None }) is.planned its.planned
+      is.is_planned its.is_planned) [
+        | inl alike ↦ offer_or_once wait is.planned is.asks
+            (subst (λ p. AsksOfferOr old request.sequence wait p again other) alike its.asks)
+        | inr lacks ↦ elim lacks [
+          | inl first ↦ first_wants
+              (subst (λ p. AsksOfferOr old request.sequence wait p ask one) first is.asks)
+          | inr second ↦ second_wants
+              (subst (λ p. AsksOfferOr old request.sequence wait p again other) second its.asks)
+        ]
       ]
-    ]
 
-sets_up_once : (r : TwoRequests) (film : ℕ) → SetsUp r.w.old r.request film r.w.ask r.w.one
-    → SetsUp r.w.old r.other film r.w.again r.w.other → Agree r.w
-sets_up_once r film is its =
-    let read = subst (λ h. IsSetupRead r.w.old.settings h film its.read) r.alike.parts.head_is its.is_read in
-    let reads = read_once (record { settings = r.w.old.settings; head = r.request.head.now; film = film }) is.read its.read
-    is.is_read read in
-    set_up_once r.w r.request.sequence is.read is.done
-    (subst (λ x. IsSetUp r.w.old r.request.sequence x r.w.again r.w.other) reads
-    (subst (λ s. IsSetUp r.w.old s its.read r.w.again r.w.other) r.alike.parts.sequence_is its.done))
+  sets_up_once : (film : ℕ) → SetsUp old request film ask one → SetsUp old reread film again other → Agree w
+  sets_up_once film is its =
+      let read = subst (λ h. IsSetupRead old.settings h film its.read) alike.parts.head_is its.is_read in
+      let reads = read_once (record { settings = old.settings; head = request.head.now; film = film }) is.read its.read
+      is.is_read read in
+      set_up_once w request.sequence is.read is.done
+      (subst (λ x. IsSetUp old request.sequence x again other) reads
+      (subst (λ s. IsSetUp old s its.read again other) alike.parts.sequence_is its.done))
 
-plays_once : (r : TwoRequests) (state : State) (authority : List ℕ)
-    → Plays state r.w.old r.request authority r.w.ask r.w.one
-    → Plays state r.w.old r.other authority r.w.again r.w.other → Agree r.w
-plays_once r Init authority is its = absurd is
-plays_once r (Ready setup paused) authority is its =
-    let range = header_value r.request.head.now (codes "Range") in
-    let call = play_call r.request.sequence authority setup in
-    let planned = subst (λ h. IsPlanned r.w.old setup paused (header_value h (codes "Range")) its.planned) r.alike.parts.head_is
-    its.is_planned in
-    let asks = subst (λ s. AsksPlayOr r.w.old (play_call s authority setup) its.planned r.w.again r.w.other)
-    r.alike.parts.sequence_is its.asks in
-    elim (planned_once (record { old = r.w.old; setup = setup; paused = paused; range = range }) is.planned its.planned
-    is.is_planned planned) [
-      | inl alike ↦ play_or_once r authority setup is.planned is.asks
-          (subst (λ p. AsksPlayOr r.w.old call p r.w.again r.w.other) alike asks)
-      | inr lacks ↦ elim lacks [
-        | inl first ↦ first_wants r (subst (λ p. AsksPlayOr r.w.old call p r.w.ask r.w.one) first is.asks)
-        | inr second ↦ second_wants r (subst (λ p. AsksPlayOr r.w.old call p r.w.again r.w.other) second asks)
+  plays_once : (state : State) (authority : List ℕ) → Plays state old request authority ask one
+      → Plays state old reread authority again other → Agree w
+  plays_once Init authority is its = absurd is
+  plays_once (Ready setup paused) authority is its =
+      let range = header_value request.head.now (codes "Range") in
+      let call = play_call request.sequence authority setup in
+      let planned = subst (λ h. IsPlanned old setup paused (header_value h (codes "Range")) its.planned) alike.parts.head_is
+      its.is_planned in
+      let asks = subst (λ s. AsksPlayOr old (play_call s authority setup) its.planned again other)
+      alike.parts.sequence_is its.asks in
+      elim (planned_once (record { old = old; setup = setup; paused = paused; range = range }) is.planned its.planned
+      is.is_planned planned) [
+        | inl alike ↦ play_or_once authority setup is.planned is.asks
+            (subst (λ p. AsksPlayOr old call p again other) alike asks)
+        | inr lacks ↦ elim lacks [
+          | inl first ↦ first_wants (subst (λ p. AsksPlayOr old call p ask one) first is.asks)
+          | inr second ↦ second_wants (subst (λ p. AsksPlayOr old call p again other) second asks)
+        ]
       ]
-    ]
-plays_once r _ authority is its =
-    replied_once r.w _ _ (ap (λ s. session_text s r.w.old.id) r.alike.parts.sequence_is) is its
+  plays_once _ authority is its =
+      replied_once w _ _ (ap (λ s. session_text s old.id) alike.parts.sequence_is) is its
 
-refused_alike : (r : TwoRequests) (refusal : Refusal)
-    → IsRefused r.w.old (Some r.request.sequence) refusal [] r.w.ask r.w.one
-    → IsRefused r.w.old (Some r.other.sequence) refusal [] r.w.again r.w.other → Agree r.w
-refused_alike r refusal is its =
-    replied_once r.w _ _ (ap (λ s. refusal_text (Some s) refusal []) r.alike.parts.sequence_is) is its
+  refused_alike : (refusal : Refusal) → IsRefused old (Some request.sequence) refusal [] ask one
+      → IsRefused old (Some reread.sequence) refusal [] again other → Agree w
+  refused_alike refusal is its =
+      replied_once w _ _ (ap (λ s. refusal_text (Some s) refusal []) alike.parts.sequence_is) is its
 
-gets_offer_once : (r : TwoRequests) (state : State) → GetsOffer state r.w.old r.request r.w.ask r.w.one
-    → GetsOffer state r.w.old r.other r.w.again r.w.other → Agree r.w
-gets_offer_once r Init is its = refused_alike r Session is its
-gets_offer_once r (Ready setup paused) (inl is) (inl its) = refused_alike r Parameter is.refused its.refused
-gets_offer_once r (Ready setup paused) (inl is) (inr its) =
-    absurd (is.none its.wait (subst (λ h. HasWait h its.wait) r.alike.parts.head_is its.has_wait))
-gets_offer_once r (Ready setup paused) (inr is) (inl its) =
-    absurd (its.none is.wait (subst (λ h. HasWait h is.wait) (sym r.alike.parts.head_is) is.has_wait))
-gets_offer_once r (Ready setup paused) (inr is) (inr its) =
-    let wait = wait_once (header_value r.request.head.now (codes "x-Wait")) is.wait its.wait is.has_wait
-    (subst (λ h. HasWait h its.wait) r.alike.parts.head_is its.has_wait) in
-    offers_in_once r is.offers
-    (subst (λ w. OffersReady r.w.old r.request.sequence w setup paused r.w.again r.w.other) wait
-    (subst (λ s. OffersReady r.w.old s its.wait setup paused r.w.again r.w.other) r.alike.parts.sequence_is its.offers))
-gets_offer_once r _ is its = refused_alike r NotNow is its
+  gets_offer_once : (state : State) → GetsOffer state old request ask one
+      → GetsOffer state old reread again other → Agree w
+  gets_offer_once Init is its = refused_alike Session is its
+  gets_offer_once (Ready setup paused) (inl is) (inl its) = refused_alike Parameter is.refused its.refused
+  gets_offer_once (Ready setup paused) (inl is) (inr its) =
+      absurd (is.none its.wait (subst (λ h. HasWait h its.wait) alike.parts.head_is its.has_wait))
+  gets_offer_once (Ready setup paused) (inr is) (inl its) =
+      absurd (its.none is.wait (subst (λ h. HasWait h is.wait) (sym alike.parts.head_is) is.has_wait))
+  gets_offer_once (Ready setup paused) (inr is) (inr its) =
+      let wait = wait_once (header_value request.head.now (codes "x-Wait")) is.wait its.wait is.has_wait
+      (subst (λ h. HasWait h its.wait) alike.parts.head_is its.has_wait) in
+      offers_in_once is.offers
+      (subst (λ w. OffersReady old request.sequence w setup paused again other) wait
+      (subst (λ s. OffersReady old s its.wait setup paused again other) alike.parts.sequence_is its.offers))
+  gets_offer_once _ is its = refused_alike NotNow is its
 
-gets_once : (r : TwoRequests) (topic : Topic) → Gets r.w.old r.request topic r.w.ask r.w.one
-    → Gets r.w.old r.other topic r.w.again r.w.other → Agree r.w
-gets_once r NoTopic is its = replied_once r.w _ _ (ap plain_text r.alike.parts.sequence_is) is its
-gets_once r Booked is its =
-    looks_once r is (subst (λ s. Looks r.w.old s r.w.again r.w.other) r.alike.parts.sequence_is its)
-gets_once r OfferTopic is its = gets_offer_once r r.w.old.state is its
-gets_once r Unknown is its = refused_alike r Parameter is its
+  gets_once : (topic : Topic) → Gets old request topic ask one → Gets old reread topic again other → Agree w
+  gets_once NoTopic is its = replied_once w _ _ (ap plain_text alike.parts.sequence_is) is its
+  gets_once Booked is its =
+      looks_once is (subst (λ s. Looks old s again other) alike.parts.sequence_is its)
+  gets_once OfferTopic is its = gets_offer_once old.state is its
+  gets_once Unknown is its = refused_alike Parameter is its
 
--- the film that it names, each time
-same_names : {a b : List ℕ} {film number : ℕ} (r : TwoRequests) → Names r.w.old.films r.request.url.now a film
-    → Names r.w.old.films r.other.url.now b number → AreSameNames a b film number
-same_names {b} {number} r is its =
-    names_once r.w.films is (subst (λ u. Names r.w.old.films u b number) r.alike.parts.url_is its)
+  -- the film that it names, each time
+  same_names : {a b : List ℕ} {film number : ℕ} → Names old.films request.url.now a film
+      → Names old.films reread.url.now b number → AreSameNames a b film number
+  same_names {b} {number} is its =
+      names_once w.films is (subst (λ u. Names old.films u b number) alike.parts.url_is its)
 
--- what a request does, each time
-abbrev first_does : TwoRequests → Method → Type 0
-first_does r m = Does (record { old = r.w.old; new = r.w.one; request = r.request; ask = r.w.ask }) m
+  -- what a request does, each time
+  abbrev first_does : Method → Type 0
+  first_does m = Does (record { old = old; new = one; request = request; ask = ask }) m
 
-abbrev second_does : TwoRequests → Method → Type 0
-second_does r m = Does (record { old = r.w.old; new = r.w.other; request = r.other; ask = r.w.again }) m
+  abbrev second_does : Method → Type 0
+  second_does m = Does (record { old = old; new = other; request = reread; ask = again }) m
 
-does_once : (r : TwoRequests) (method : Method) → first_does r method → second_does r method → Agree r.w
-does_once r Options is its = replied_once r.w _ _ (ap public_text r.alike.parts.sequence_is) is its
-does_once r Describe is its =
-    let names = same_names r is.1.1.0.named its.1.1.0.named in
-    describes_once r.w r.request.sequence is.1.0 is.0 is.1.1.1
-    (subst (λ n. Describes r.w.old r.request.sequence n is.0 r.w.again r.w.other) names.film_is
-    (subst (λ a. Describes r.w.old r.request.sequence its.1.0 a r.w.again r.w.other) names.authority
-    (subst (λ s. Describes r.w.old s its.1.0 its.0 r.w.again r.w.other) r.alike.parts.sequence_is its.1.1.1)))
-does_once r SetupMethod is its =
-    let names = same_names r is.1.1.0.named its.1.1.0.named in
-    sets_up_once r is.1.0 is.1.1.1
-    (subst (λ n. SetsUp r.w.old r.other n r.w.again r.w.other) names.film_is its.1.1.1)
-does_once r PlayMethod is its =
-    let names = same_names r is.1.1.0.named its.1.1.0.named in
-    plays_once r r.w.old.state is.0 is.1.1.1
-    (subst (λ a. Plays r.w.old.state r.w.old r.other a r.w.again r.w.other) names.authority its.1.1.1)
-does_once r Pause is its =
-    pauses_once r.w r.w.old.state r.request.sequence is
-    (subst (λ s. Pauses r.w.old.state r.w.old s r.w.again r.w.other) r.alike.parts.sequence_is its)
-does_once r Teardown is its =
-    tears_once r.w r.w.old.state r.request.sequence is
-    (subst (λ s. TearsDown r.w.old.state r.w.old s r.w.again r.w.other) r.alike.parts.sequence_is its)
-does_once r GetParameter is its =
-    let topic = topic_once r.request.body.now is.topic its.topic is.is_topic
-    (subst (λ b. IsTopic b its.topic) r.alike.parts.body_is its.is_topic) in
-    gets_once r is.topic is.gets (subst (λ t. Gets r.w.old r.other t r.w.again r.w.other) topic its.gets)
+  does_once : (method : Method) → first_does method → second_does method → Agree w
+  does_once Options is its = replied_once w _ _ (ap public_text alike.parts.sequence_is) is its
+  does_once Describe is its =
+      let names = same_names is.1.1.0.named its.1.1.0.named in
+      describes_once w request.sequence is.1.0 is.0 is.1.1.1
+      (subst (λ n. Describes old request.sequence n is.0 again other) names.film_is
+      (subst (λ a. Describes old request.sequence its.1.0 a again other) names.authority
+      (subst (λ s. Describes old s its.1.0 its.0 again other) alike.parts.sequence_is its.1.1.1)))
+  does_once SetupMethod is its =
+      let names = same_names is.1.1.0.named its.1.1.0.named in
+      sets_up_once is.1.0 is.1.1.1
+      (subst (λ n. SetsUp old reread n again other) names.film_is its.1.1.1)
+  does_once PlayMethod is its =
+      let names = same_names is.1.1.0.named its.1.1.0.named in
+      plays_once old.state is.0 is.1.1.1
+      (subst (λ a. Plays old.state old reread a again other) names.authority its.1.1.1)
+  does_once Pause is its =
+      pauses_once w old.state request.sequence is
+      (subst (λ s. Pauses old.state old s again other) alike.parts.sequence_is its)
+  does_once Teardown is its =
+      tears_once w old.state request.sequence is
+      (subst (λ s. TearsDown old.state old s again other) alike.parts.sequence_is its)
+  does_once GetParameter is its =
+      let topic = topic_once request.body.now is.topic its.topic is.is_topic
+      (subst (λ b. IsTopic b its.topic) alike.parts.body_is its.is_topic) in
+      gets_once is.topic is.gets (subst (λ t. Gets old reread t again other) topic its.gets)
 
 takes_once : (w : TwoHearings) (request : Request) (judgement : Result Task Refusal) → IsReadAs w.message request
     → IsJudged w.old.films w.old.id w.old.state request judgement → Takes w.old request judgement w.ask w.one
