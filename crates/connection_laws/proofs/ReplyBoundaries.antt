@@ -27,9 +27,9 @@ use Rattle.connection_laws.specs.Replies.{placed_text}
 use Rattle.connection_laws.proofs.JoinedFilms.{IsOnTime, IsSound, play_with, through_time, IsAtLast}
 use Rattle.connection_laws.proofs.TextPlaces.{AreLater, StandAt, from_lower, later_lower, none_due, text_at, AreSent}
 use Rattle.connection_laws.proofs.TextPlaces.{NextText, ToCome, part_then}
-use Rattle.connection_laws.proofs.Slots.{ended_at, ending_cases, going_cases, waits_after}
+use Rattle.connection_laws.proofs.Slots.{ended_at, ending_cases, going_sends, waits_after}
 use Rattle.conn.proofs.PlayProgress.{parts_of, state_after_slot}
-use Rattle.connection_laws.proofs.RequestEffects.{Ends, Ending, Going, Idle, IsStill, Sends, Starts, Stays}
+use Rattle.connection_laws.proofs.RequestEffects.{Begins, Ends, Ending, Going, Idle, IsStill, Sends, Starts, Stays}
 use Rattle.connection_laws.proofs.RequestEffects.{TurnsAs, begun_is, pacing_for, sends_in}
 use Rattle.connection_laws.proofs.CourseInduction.{asked_piece, Piece, parts_piece, no_piece}
 
@@ -62,17 +62,10 @@ taken_fits : {sends : Sends} {heard : ℕ} {askings : List StationRequest} {come
     → Fits (point sends heard None) askings (record come { slots = heard ∷ come.slots })
 taken_fits fits = record { from = (omega arith, fits.from); later = fits.later; stand = fits.stand }
 
-pub turn_goes : {old new : SessionState} {asked : Awaited} {outcome : Outcome} → TurnsAs old asked outcome new
+begins_goes : {old new : SessionState} {asked : Awaited} {outcome : Outcome} → Begins old asked outcome new
     → GoesTo (point (sends_in old.state) old.heard None) (point (sends_in new.state) old.heard (Some old.heard))
     (turn_piece asked outcome old.heard)
-turn_goes {old} (Stays same still) = record {
-  later = omega arith;
-  rest = λ askings come on fits.
-      (still_goes still (point (sends_in old.state) old.heard None)).rest askings
-      (record come { slots = old.heard ∷ come.slots }) on
-      (taken_fits (subst (λ s. Fits (point s old.heard (Some old.heard)) askings come) same fits));
-}
-turn_goes {old} (Starts begins) = record {
+begins_goes {old} begins = record {
   later = omega arith;
   rest = λ askings come on fits.
       let p : PacerState = pacing_for begins.prepared begins.admitted.start in
@@ -91,6 +84,18 @@ turn_goes {old} (Starts begins) = record {
             begins.paced (record { texts = there.stand.texts; film = there.stand.film }));
       });
 }
+
+pub turn_goes : {old new : SessionState} {asked : Awaited} {outcome : Outcome} → TurnsAs old asked outcome new
+    → GoesTo (point (sends_in old.state) old.heard None) (point (sends_in new.state) old.heard (Some old.heard))
+    (turn_piece asked outcome old.heard)
+turn_goes {old} (Stays same still) = record {
+  later = omega arith;
+  rest = λ askings come on fits.
+      (still_goes still (point (sends_in old.state) old.heard None)).rest askings
+      (record come { slots = old.heard ∷ come.slots }) on
+      (taken_fits (subst (λ s. Fits (point s old.heard (Some old.heard)) askings come) same fits));
+}
+turn_goes (Starts begins) = begins_goes begins
 turn_goes {old} {outcome = outcome} (Ends halts) = record {
   later = omega arith;
   rest = λ askings come on fits.
@@ -344,16 +349,8 @@ pub slot_moves : {waits : Bool} (state : State) (start : SlotStart state waits) 
     → SlotMoves start
 slot_moves {waits} (Playing setup play) start sending =
     let p : PacerState = play.pacer in
-    let one : PacerState = after_step true slot p in
-    let between : Bool = stands_at_boundary one in
-    let sends : sends_in (state_after_slot waits (Playing setup play) slot) ≡ Going (sent_through slot p) =
-    going_cases waits between (record {
-      setup = setup;
-      play = play;
-      both = after_step false slot one;
-      front = one;
-      plain = after_step false slot p;
-    }) ∙ ap Going (slot_is waits between slot p sound.0.pacing refl) in
+    let between : Bool = stands_at_boundary (after_step true slot p) in
+    let sends = going_sends waits setup play slot sound.0.pacing in
     let s : PlaySlot waits between pending = play_slot start p sound.0 held in
     record {
       after = after_slot between pending;

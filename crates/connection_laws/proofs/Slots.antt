@@ -1,8 +1,8 @@
 -- What a request, a reply and a slot make of what is being sent.
 use Rattle.std.proofs.Common.{◌≡◌, ℕ, ◌+◌, ◌≤◌, ◌&&◌, if◌then◌else◌, Bool, true, false, length, refl, sym}
-use Rattle.std.proofs.Common.{subst, arith}
+use Rattle.std.proofs.Common.{ap, ◌∙◌, subst, arith}
 use Rattle.film_frames.specs.Tracks.{IsBoundary, framed_bytes}
-use Rattle.pacer.specs.PacerStates.{PacerState, next_boundary, first_slots}
+use Rattle.pacer.specs.PacerStates.{IsPacerState, PacerState, after_step, first_slots, next_boundary, stands_at_boundary}
 use Rattle.pacer.proofs.PacerStateLemmas.{boundary-from}
 use Rattle.session.specs.declared.states.Play.{Play as Played}
 use Rattle.session.specs.declared.states.Stop.{Stop}
@@ -15,6 +15,8 @@ use Rattle.conn.specs.InputSteps.{Outcome}
 use Rattle.connection_laws.proofs.JoinedFilms.{IsAtLast, IsOnTime, IsSound}
 use Rattle.connection_laws.proofs.RequestEffects.{Ending, Going, Idle, Sends, sends_in, Starts, Stays, TurnsAs, Ends}
 use Rattle.conn.proofs.EventPremises.{SlotPacings}
+use Rattle.conn.proofs.FilmBytes.{sent_through, slot_is}
+use Rattle.conn.proofs.PlayProgress.{state_after_slot}
 use Rattle.session.specs.declared.states.Awaited.{Awaited}
 use Rattle.session.specs.SessionStates.{SessionState}
 use Rattle.plan_cert.specs.PlanSlots.{total_bytes}
@@ -86,7 +88,7 @@ waits_after waits state slot = if waits && is_between (stepped_in true slot stat
 abbrev pub going_with : Setup → Played → PacerState → State
 going_with setup play p = Playing setup (record play { pacer = p })
 
-pub going_cases : (waits between : Bool) (pacings : SlotPacings) →
+going_cases : (waits between : Bool) (pacings : SlotPacings) →
     sends_in (if waits && between then after_stop
     (if waits then (if between then going_with pacings.setup pacings.play pacings.both else going_with pacings.setup
     pacings.play pacings.front) else going_with pacings.setup pacings.play pacings.plain)
@@ -97,6 +99,19 @@ pub going_cases : (waits between : Bool) (pacings : SlotPacings) →
 going_cases false between pacings = refl
 going_cases true false pacings = refl
 going_cases true true pacings = refl
+
+pub going_sends : (waits : Bool) (setup : Setup) (play : Played) (slot : ℕ) → IsPacerState play.pacer
+    → sends_in (state_after_slot waits (Playing setup play) slot) ≡ Going (sent_through slot play.pacer)
+going_sends waits setup play slot is =
+    let p : PacerState = play.pacer in
+    let one : PacerState = after_step true slot p in
+    going_cases waits (stands_at_boundary one) (record {
+      setup = setup;
+      play = play;
+      both = after_step false slot one;
+      front = one;
+      plain = after_step false slot p;
+    }) ∙ ap Going (slot_is waits (stands_at_boundary one) slot p is refl)
 
 abbrev pub ending_with : Setup → Stop → PacerState → State
 ending_with setup stop p = Stopping setup (record stop { pacer = p })

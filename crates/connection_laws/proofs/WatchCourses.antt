@@ -126,12 +126,8 @@ kept_promise {rounds} {mid} {bytes} {out} c s runs all front fed =
     let mine : rounds_heard rounds ≡ take (length (rounds_heard rounds)) (framed_bytes (all_of x)) =
     front_of (rounds_heard rounds) bytes (framed_bytes (all_of x)) c front in
     let always =
-    always_all (record {
-      wish = wish;
-      stream = stream;
-      begin = first_slot mid.history;
-      count = whole.count;
-    }) (record { heard = heard_none; idle = inl refl; count = length (rounds_heard rounds); front = mine }) runs
+    always_all (record { wish = wish; stream = stream; begin = first_slot mid.history; count = whole.count })
+    (record { heard = heard_none; idle = inl refl; count = length (rounds_heard rounds); front = mine }) runs
     (record { few = few; begins = refl }) fed tt in
     let A : History → Type 0 = λ g. IsBetweenAlways wish (film_sizes film) (picture_time film.rate) g in
     let last = subst A (sym all.history)

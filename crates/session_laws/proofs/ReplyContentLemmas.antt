@@ -172,6 +172,31 @@ few_ms units unit time within few brief =
     let small : unit * time / 360 * 360 ≤ unit * time = div-mul-le_self (unit * time) 360 in
     omega (arith, most, small)
 
+-- a number of 16 bits that goes on twice
+sum_twice_mod : (a b c : ℕ) → ((a + b) % 65536 + c) % 65536 ≡ (a + (b + c)) % 65536
+sum_twice_mod a b c =
+    ap (λ n. n % 65536) (add_comm ((a + b) % 65536) c) ∙ sum_mod c (a + b) 65536
+    ∙ ap (λ n. n % 65536) (let same : c + (a + b) ≡ a + (b + c) = omega arith in same)
+
+-- the value of RTP-Info in its parts, and as it is joined
+info_value : (a n q t : List ℕ)
+    → joined_parts (codes "url=rtsp://" ∷ a ∷ codes "/" ∷ n ∷ codes "/video;seq=" ∷ q ∷ codes ";rtptime=" ∷ t ∷ [])
+    ≡ codes "url=" ++ (codes "rtsp://" ++
+    (a ++ (47 ∷ n ++ codes "/video"))) ++ codes ";seq=" ++ q ++ codes ";rtptime=" ++ t
+info_value a n q t =
+    let x = codes ";rtptime=" ++ t in
+    let y = codes ";seq=" ++ (q ++ x) in
+    let u = codes "url=" ++ (codes "rtsp://" ++ (a ++ (47 ∷ n ++ codes "/video"))) in
+    let right : u ++ codes ";seq=" ++ q ++ codes ";rtptime=" ++ t ≡ u ++ y =
+    append_assoc (u ++ codes ";seq=" ++ q) (codes ";rtptime=") t ∙ append_assoc (u ++ codes ";seq=") q x
+    ∙ append_assoc u (codes ";seq=") (q ++ x) in
+    let inner : u ++ y ≡ codes "url=rtsp://" ++ (a ++ (47 ∷ (n ++ (codes "/video" ++ y)))) =
+    ap (λ l. codes "url=rtsp://" ++ l) (append_assoc a (47 ∷ n ++ codes "/video") y
+    ∙ ap (λ l. a ++ (47 ∷ l)) (append_assoc n (codes "/video") y)) in
+    ap (λ l. codes "url=rtsp://"
+    ++ (a ++ (47 ∷ (n ++ (codes "/video;seq=" ++ (q ++ (codes ";rtptime=" ++ l))))))) (append-nil t)
+    ∙ sym inner ∙ sym right
+
 info_told : {stored : Stored} {authority : List ℕ} (old : SessionState) (setup : Setup) (planned : Planned)
     → IsAuthority authority
     → good_name (string_bytes stored.name) ≡ true
@@ -194,34 +219,11 @@ info_told {stored} {authority} old setup planned is good =
       time = time;
       names_film = film_url authority name (codes "/video") is good (inr (inr (inl refl)));
       number_is = number_goes_on old.source.sequence planned.counts.frames sent
-          ∙ whole_sum old.source.sequence planned.counts.frames sent;
+          ∙ sum_twice_mod old.source.sequence planned.counts.frames sent;
       ticks_are = ticks_4 (planned.run.from_unit * picture_time stored.film.rate);
       time_is = refl;
-      value_is = value authority name (decimal number) (decimal time);
+      value_is = info_value authority name (decimal number) (decimal time);
     }
-  where
-    whole_sum : (a b c : ℕ) → ((a + b) % 65536 + c) % 65536 ≡ (a + (b + c)) % 65536
-    whole_sum a b c =
-        ap (λ n. n % 65536) (add_comm ((a + b) % 65536) c) ∙ sum_mod c (a + b) 65536
-        ∙ ap (λ n. n % 65536) (let same : c + (a + b) ≡ a + (b + c) = omega arith in same)
-
-    value : (a n q t : List ℕ)
-        → joined_parts (codes "url=rtsp://" ∷ a ∷ codes "/" ∷ n ∷ codes "/video;seq=" ∷ q ∷ codes ";rtptime=" ∷ t ∷ [])
-        ≡ codes "url=" ++ (codes "rtsp://" ++
-        (a ++ (47 ∷ n ++ codes "/video"))) ++ codes ";seq=" ++ q ++ codes ";rtptime=" ++ t
-    value a n q t =
-        let x = codes ";rtptime=" ++ t in
-        let y = codes ";seq=" ++ (q ++ x) in
-        let u = codes "url=" ++ (codes "rtsp://" ++ (a ++ (47 ∷ n ++ codes "/video"))) in
-        let right : u ++ codes ";seq=" ++ q ++ codes ";rtptime=" ++ t ≡ u ++ y =
-        append_assoc (u ++ codes ";seq=" ++ q) (codes ";rtptime=") t ∙ append_assoc (u ++ codes ";seq=") q x
-        ∙ append_assoc u (codes ";seq=") (q ++ x) in
-        let inner : u ++ y ≡ codes "url=rtsp://" ++ (a ++ (47 ∷ (n ++ (codes "/video" ++ y)))) =
-        ap (λ l. codes "url=rtsp://" ++ l) (append_assoc a (47 ∷ n ++ codes "/video") y
-        ∙ ap (λ l. a ++ (47 ∷ l)) (append_assoc n (codes "/video") y)) in
-        ap (λ l. codes "url=rtsp://"
-        ++ (a ++ (47 ∷ (n ++ (codes "/video;seq=" ++ (q ++ (codes ";rtptime=" ++ l))))))) (append-nil t)
-        ∙ sym inner ∙ sym right
 
 pub play_told : (old : SessionState) (stored : Stored) (setup : Setup) (planned : Planned)
     (sequence : ℕ) {authority : List ℕ}

@@ -79,21 +79,18 @@ answer_number : (h : HeardMessage) (request : Request) → IsReadAs h.message re
     → RepliesHaveNumber request.sequence h.ask h.new
 answer_number h request read answer = elim answer [
   | Replies reply is ↦
-      by_ask h request.sequence is.0 (same_number (ap (λ (t : SessionState). t.text) is.1)
-      (own_number h request read reply))
+      by_ask h request.sequence is.0 (told is.1 (own_number h request read reply))
   | SetsUp film taken setup asks is ↦
-      of_task taken (by_ask h taken.request.sequence is.0 (same_number (ap (λ (t : SessionState). t.text) is.1)
-      (numbered 200 taken.request.sequence _ [])))
+      of_task taken (by_ask h taken.request.sequence is.0 (told is.1 (numbered 200 taken.request.sequence _ [])))
   | StartsPlay play planned asks planned_is ↦ of_task play.taken (play_number h play planned asks)
   | HaltsPlay taken hand is ↦
       of_task taken (by_ask h taken.request.sequence is.asks.command
-      (same_number (ap (λ (t : SessionState). t.text) is.asks.state) (numbered 200 taken.request.sequence _ [])))
+      (told is.asks.state (numbered 200 taken.request.sequence _ [])))
   | StopsPlay taken hand is ↦
       of_task taken (by_ask h taken.request.sequence is.command
-      (same_number (ap (λ (t : SessionState). t.text) is.state) (numbered 200 taken.request.sequence _ [])))
+      (told is.state (numbered 200 taken.request.sequence _ [])))
   | EndsSession taken is ↦
-      of_task taken (by_ask h taken.request.sequence is.0 (same_number (ap (λ (t : SessionState). t.text) is.1)
-      (numbered 200 taken.request.sequence _ [])))
+      of_task taken (by_ask h taken.request.sequence is.0 (told is.1 (numbered 200 taken.request.sequence _ [])))
   | TakesLook taken look ↦
       let n = taken.request.sequence in
       let number : sequence_of h.new.awaited ≡ n = ap (λ (t : SessionState). sequence_of t.awaited) look.state in
@@ -111,6 +108,9 @@ answer_number h request read answer = elim answer [
       (numbered 200 n _ (offer_body note.offers.start note.offers.tried))))
 ]
   where
+    told : {n : ℕ} {made : SessionState} → h.new ≡ made → HasNumber n made.text → HasNumber n h.new.text
+    told is has = same_number (ap (λ (t : SessionState). t.text) is) has
+
     of_task : {task : Task} (taken : TakenTask h task) → RepliesHaveNumber taken.request.sequence h.ask h.new
         → RepliesHaveNumber request.sequence h.ask h.new
     of_task taken has =
