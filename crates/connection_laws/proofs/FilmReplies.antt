@@ -5,7 +5,6 @@ use Rattle.std.proofs.Common.{sym, ap, ap₂, subst, ◌∙◌, arith}
 use Rattle.std.specs.List.{list_all}
 use Rattle.std.proofs.lemmas.Bool.{and_parts}
 use Rattle.std.proofs.Math.Nat.{div-mul-le_self, mul-le-mul}
-use Rattle.film_frames.specs.declared.stored_films.Stored.{Stored}
 use Rattle.mpeg_scan.specs.StartCodes.{read_after}
 use Rattle.mpeg_scan.specs.PictureRates.{picture_time}
 use Rattle.mpeg_scan.specs.declared.films.Film.{Film}
@@ -37,6 +36,7 @@ use Rattle.connection_laws.proofs.SetupOnly.{Ground, IsUnbegun, IsWaiting}
 use Rattle.session.proofs.InitialStateLemmas.{HeardMessage, heard_by}
 use Rattle.conn.proofs.StationAnswers.{answers_as}
 use Rattle.connection_laws.proofs.ClientSetups.{Beginning}
+use Rattle.connection_laws.proofs.FirstPlays.{WishedFilm}
 
 -- ---- numbers in their ranges
 
@@ -64,11 +64,8 @@ name_prints name good =
 
 -- the reply to a PLAY of a film of the wished name
 pub record IsFilmAnswer (b : Beginning) (message : List ℕ) : Type 0 where
-  pub number : ℕ
-  pub stored : Stored
-  pub at : IsFilmAt b.start.films number stored
-  pub name_is : string_bytes stored.name ≡ string_bytes b.wish.name
-  pub answer : IsPlayAnswer (length_ms stored.film) message
+  pub film : WishedFilm b
+  pub answer : IsPlayAnswer (length_ms film.stored.film) message
 
 -- what comes of a client's PLAY that begins a play in a slot: its reply, and the session
 pub record IsPlayBegun (b : Beginning) (start : ℕ) (old new : SessionState) : Type 0 where
@@ -112,10 +109,7 @@ film_answer {b} {h} {start = start} play few =
     let at = subst (λ (g : Ground). IsFilmAt g.films setup.film stored) waits.still.ground asks.at in
     let named : string_bytes stored.name ≡ string_bytes b.wish.name = begun.1.film stored at in
     record {
-      number = setup.film;
-      stored = stored;
-      at = at;
-      name_is = named;
+      film = record { number = setup.film; stored = stored; at = at; name_is = named };
       answer = play_answer (record {
         id = h.old.id;
         end_ms = length_ms stored.film;

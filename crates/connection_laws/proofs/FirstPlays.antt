@@ -86,19 +86,23 @@ asked_plan {wish} {stored} {settings} {setup} {plan} wished set is =
       plan_is = subst P same is.plan_is;
     }
 
--- a play of the entire film, as the client wished
-pub record IsWished (b : Beginning) (play : FilmPlay) : Type 0 where
+-- a film of the wished name
+pub record WishedFilm (b : Beginning) : Type 0 where
   pub number : ℕ
   pub stored : Stored
   pub at : IsFilmAt b.start.films number stored
   pub name_is : string_bytes stored.name ≡ string_bytes b.wish.name
+
+-- a play of the entire film, as the client wished
+pub record IsWished (b : Beginning) (play : FilmPlay) : Type 0 where
+  pub film : WishedFilm b
   pub identity : Identity
   pub media : identity.channel ≡ 0
   pub control : identity.control ≡ 1
   pub ssrc : identity.ssrc ≡ b.start.source.ssrc
-  pub pieces : play.pieces ≡ film_blocks stored identity
+  pub pieces : play.pieces ≡ film_blocks film.stored identity
   pub before : play.before ≡ 0
-  pub sending : IsSending (stored_sizes stored) (playback_of b.wish stored) (whole_run stored) play.plan
+  pub sending : IsSending (stored_sizes film.stored) (playback_of b.wish film.stored) (whole_run film.stored) play.plan
 
 pub some_time : (stored : Stored) → 1 ≤ picture_time stored.film.rate
 some_time stored =
@@ -161,10 +165,7 @@ wished_play {b} {h} {prepared} {play} waits is heard plan before pieces =
     let at = subst (λ (g : Ground). IsFilmAt g.films setup.film stored) waits.still.ground started.planned_is.at in
     let plan_is : play.plan ≡ started.planned.plan = plan ∙ ap (λ (p : Prepared). p.plan) prepared_is in
     record {
-      number = setup.film;
-      stored = stored;
-      at = at;
-      name_is = its.settled.film stored at;
+      film = record { number = setup.film; stored = stored; at = at; name_is = its.settled.film stored at };
       identity = identity_of h.old.source setup started.planned.counts;
       media = its.settled.media;
       control = its.settled.control;

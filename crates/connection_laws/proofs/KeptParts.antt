@@ -120,12 +120,8 @@ replied_names s = reply_keeps names_in (λ t. refl) (can_reply s) s
 
 pub slot_names : (old : SessionState) (slot : ℕ) → names_in (after_slot old slot) ≡ names_in old
 slot_names old slot =
-    slot_keeps {part = names_in} (record {
-      reply = λ s. refl;
-      due = λ s n. refl;
-      done = λ s. refl;
-      idle = λ s n. refl;
-    }) old slot
+    slot_keeps {part = names_in}
+    (record { reply = λ s. refl; due = λ s n. refl; done = λ s. refl; idle = λ s n. refl }) old slot
 
 pub stepped_names : (old : SessionState) (slot : ℕ) (due : List SentPart) (halt : Outcome) (new : SessionState)
     → HasStepped old slot due halt new → names_in new ≡ names_in old

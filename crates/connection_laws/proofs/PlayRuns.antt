@@ -235,12 +235,8 @@ module _ (words : List ℕ) where
 
   slot_looks : (s : SessionState) (slot : ℕ) → (after_slot s slot).looks_left ≡ s.looks_left
   slot_looks s slot =
-      slot_keeps {part = λ (t : SessionState). t.looks_left} (record {
-        reply = λ t. refl;
-        due = λ t n. refl;
-        done = λ t. refl;
-        idle = λ t n. refl;
-      }) s slot
+      slot_keeps {part = λ (t : SessionState). t.looks_left}
+      (record { reply = λ t. refl; due = λ t n. refl; done = λ t. refl; idle = λ t n. refl }) s slot
 
   reply_moves : (goes : Bool) (s : SessionState) → Moves s (if goes then sent_reply s else s)
   reply_moves true s = λ kept last is. stopped (standing s kept last) s.state is

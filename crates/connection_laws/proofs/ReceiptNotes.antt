@@ -58,12 +58,8 @@ logs_answer {old} _ = logs_none old old refl
 
 logs_slot : (old : SessionState) (slot : ℕ) → Logs old [] (after_slot old slot)
 logs_slot old slot =
-    logs_none old (after_slot old slot) (slot_keeps {part = log_of} (record {
-      reply = λ s. refl;
-      due = λ s n. refl;
-      done = λ s. refl;
-      idle = λ s n. refl;
-    }) old slot)
+    logs_none old (after_slot old slot) (slot_keeps {part = log_of}
+    (record { reply = λ s. refl; due = λ s n. refl; done = λ s. refl; idle = λ s n. refl }) old slot)
 
 logs_finished : {s new : SessionState} {asks : AwaitedAnswer} {halt : Outcome} → FinishesAs s asks halt new
     → Logs s (halt ∷ []) new

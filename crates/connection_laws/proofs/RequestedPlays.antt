@@ -34,7 +34,7 @@ use Rattle.connection_laws.proofs.ReplyOrder.{replies_in_order}
 use Rattle.session_laws.proofs.CompleteReplyLemmas.{begins_named}
 use Rattle.connection_laws.proofs.EndToEndMeter.{rest_all}
 use Rattle.connection_laws.proofs.CourseSteps.{replies_sent, first_stands}
-use Rattle.connection_laws.proofs.FirstPlays.{IsWished}
+use Rattle.connection_laws.proofs.FirstPlays.{IsWished, WishedFilm}
 use Rattle.film_streams.specs.Films.{length_ms}
 use Rattle.connection_laws.specs.WatchEnds.{AreAnswers, AreGoodReplies}
 use Rattle.connection_laws.proofs.FilmReplies.{IsFilmAnswer}
@@ -140,6 +140,11 @@ beginning_of {wish} {stored} {course} asked = record {
   slot_units = asked.slot_units;
 }
 
+-- the film of the wished name
+asked_film : {wish : Wish} {stored : Stored} {course : Course} (asked : IsAskedFor wish stored course)
+    (film : WishedFilm (beginning_of asked)) → film.stored ≡ stored
+asked_film asked film = asked.named film.number film.stored film.at film.name_is
+
 -- TEARDOWN asks for no play
 pub teardown_no_play : (b : Beginning) {message : List ℕ} → message ≡ teardown_text b.wish b.session → IsNoPlay message
 teardown_no_play b {message} is = λ request read method.
@@ -235,7 +240,7 @@ one_play {wish} {stored} {course} asked =
 whole_play : {wish : Wish} {stored : Stored} {course : Course} (asked : IsAskedFor wish stored course)
     (wished : IsWished (beginning_of asked) asked.play) → IsWholePlay wish stored wished.identity asked.play
 whole_play {wish} {stored} {course} asked wished =
-    let same : wished.stored ≡ stored = asked.named wished.number wished.stored wished.at wished.name_is in
+    let same = asked_film asked wished.film in
     subst (λ s. IsWholePlay wish s wished.identity asked.play) same (record {
       media = wished.media;
       control = wished.control;
@@ -318,9 +323,9 @@ module _ {wish : Wish} {stored : Stored} {course : Course} where
       ap (λ ts. map text_of ts ++ waiting) played.texts in
       let R : List (List ℕ) → Type 0 = λ rs. AreRead b 1 rs in
       let its = subst R (sym ordered ∙ texts) read in
-      let film : IsFilmAnswer b played.played = its.1.0 in
-      let same : film.stored ≡ stored = asked.named film.number film.stored film.at film.name_is in
-      let play = subst (λ (s : Stored). IsPlayAnswer (length_ms s.film) played.played) same film.answer in
+      let answer : IsFilmAnswer b played.played = its.1.0 in
+      let play = subst (λ (s : Stored). IsPlayAnswer (length_ms s.film) played.played)
+      (asked_film asked answer.film) answer.answer in
       record {
         setup_is = its.0.answer;
         session = its.0.named;

@@ -103,14 +103,14 @@ declined_or {h} heard does = elim heard [
 pub teardown_ends : (old new : SessionState) (message : List ℕ) (ask : Ask) → IsTeardown message
     → Hears old message ask new → IsDeclined old ask new ⊎ IsTornDown old ask new
 teardown_ends old new message ask is hears =
-    let h : HeardMessage = heard_by {old = old} {new = new} {message = message} {ask = ask} hears in
+    let h : HeardMessage = heard_by hears in
     declined_or (heard_method h is.request Teardown is.is_request is.method_is)
     (λ (up : TakenUp h is.request Teardown). tears_in h up.other.sequence old.state refl up.does)
 
 pub pause_leaves : (old new : SessionState) (message : List ℕ) (ask : Ask) → IsPause message → Hears old message ask new
     → IsDeclined old ask new ⊎ IsPausedPlay old ask new
 pause_leaves old new message ask is hears =
-    let h : HeardMessage = heard_by {old = old} {new = new} {message = message} {ask = ask} hears in
+    let h : HeardMessage = heard_by hears in
     declined_or (heard_method h is.request Pause is.is_request is.method_is)
     (λ (up : TakenUp h is.request Pause). pauses_in h up.other.sequence old.state refl up.does)
 
@@ -122,14 +122,14 @@ good_up h is good state = taken_up h _ _ is (record { talk = good.talk; film = i
 pub teardown_taken : (old new : SessionState) (message : List ℕ) (ask : Ask) → CanBeTornDown old message
     → Hears old message ask new → IsTornDown old ask new
 teardown_taken old new message ask can hears =
-    let h : HeardMessage = heard_by {old = old} {new = new} {message = message} {ask = ask} hears in
+    let h : HeardMessage = heard_by hears in
     let up = good_up {m = Teardown} h can.is_request can.good tt in
     tears_in h up.other.sequence old.state refl up.does
 
 pub pause_taken : (old new : SessionState) (message : List ℕ) (ask : Ask) → CanBePaused old message
     → Hears old message ask new → IsPausedPlay old ask new
 pause_taken old new message ask can hears =
-    let h : HeardMessage = heard_by {old = old} {new = new} {message = message} {ask = ask} hears in
+    let h : HeardMessage = heard_by hears in
     let up = good_up {m = Pause} h can.is_request can.good (ap is_playing_in can.playing) in
     pauses_in h up.other.sequence old.state refl up.does
 

@@ -52,7 +52,7 @@ pub record HeardRequest : Type 0 where
 abbrev pub request_heard : {old new : SessionState} {message : List ℕ} {ask : Ask} (request : Request)
     → Hears old message ask new → IsReadAs message request → HeardRequest
 request_heard {old} {new} {message} {ask} request hears is = record {
-  heard = heard_by {old = old} {new = new} {message = message} {ask = ask} hears;
+  heard = heard_by hears;
   request = request;
   is = is;
 }
