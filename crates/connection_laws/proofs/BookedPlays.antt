@@ -82,7 +82,8 @@ turn_told old new asked outcome (Stays same still) = λ askings made keeps.
     ap (map booking_of) (still.none askings) ∙ sym (still.untold made)
 turn_told old new asked outcome (Starts begins) = λ askings made keeps.
     let p = begins.prepared in
-    let told : told_by outcome made ≡ truncated_play begins.admitted.start p.plan (kept_among made (total_bytes p.plan)) ∷ [] =
+    let told : told_by outcome made
+    ≡ truncated_play begins.admitted.start p.plan (kept_among made (total_bytes p.plan)) ∷ [] =
     rw (begins.outcome_is, begins.admitted.command, begins.admitted.answer) in
     ap (map booking_of) (begun_is begins askings)
     ∙ ap (λ k. truncated_play begins.admitted.start p.plan k ∷ []) (keeps (total_bytes p.plan)) ∙ sym told
@@ -311,7 +312,8 @@ none_late heard asked outcome none = λ askings play rest is.
 begins_late : (old new : SessionState) (asked : Awaited) (outcome : Outcome) → Begins old asked outcome new
     → IsLate old.heard asked outcome
 begins_late old new asked outcome begins = λ askings play rest is.
-    let all : play_by begins.prepared begins.admitted.start askings ∷ [] ≡ play ∷ rest = sym (begun_is begins askings) ∙ is in
+    let all : play_by begins.prepared begins.admitted.start askings ∷ [] ≡ play ∷ rest =
+    sym (begun_is begins askings) ∙ is in
     let same : play_by begins.prepared begins.admitted.start askings ≡ play = cc in
     rw (← same) (record { late = begins.admitted.later; plan = subst IsPlan begins.paced begins.pacing.plan })
 

@@ -212,7 +212,8 @@ note_is : (setup : Setup) (prepared : Prepared) (place : ℕ) (admitted : Option
 note_is setup prepared place None later = refl
 note_is setup prepared place (Some booked) later = rw (later.keeps booked.keep)
 
-play_noted : {base : SessionState} (play : AskedPlay base) (placed : PlacedEntry) → IsNoted (at_play play) (Entered placed)
+play_noted : {base : SessionState} (play : AskedPlay base) (placed : PlacedEntry)
+    → IsNoted (at_play play) (Entered placed)
 play_noted play placed later =
     note_is play.setup play.prepared placed.place (play_admitted placed.entry.command placed.entry.answer) later
 

@@ -255,7 +255,11 @@ path_taken old new message outcome parts replied =
     } in
     record {
       way = record { elements = RequestElement turn ∷ []; goes = (new, (taken, refl)) };
-      is = rw (append-nil (parts_bytes (reply_parts replied.answered)), append-nil (answer_in outcome), replied.parts_are);
+      is = rw (
+        append-nil (parts_bytes (reply_parts replied.answered)),
+        append-nil (answer_in outcome),
+        replied.parts_are,
+      );
     }
 
 abbrev pub takings_exchange : (old : Stage) (takings : List ElementStep) (new : Stage) → TakesAll old takings new
@@ -373,7 +377,8 @@ pub record PathDone (old : Stage) (xs : List Element) : Type 0 where
   pub done : IsDrained last
 
 -- the path after its first element
-abbrev path_rest : {old : Stage} {x : Element} {xs : List Element} (way : PathDone old (x ∷ xs)) → PathDone way.goes.0 xs
+abbrev path_rest : {old : Stage} {x : Element} {xs : List Element} (way : PathDone old (x ∷ xs))
+    → PathDone way.goes.0 xs
 path_rest way = record { last = way.last; goes = way.goes.1.1; done = way.done }
 
 -- from the same stage
@@ -403,10 +408,15 @@ overs_same {old} {n = n} {m = m} is also =
     also.new_is ∙ ap (λ k. stage old.session (drop k old.input)) size ∙ sym is.new_is
 
 pub ends_same : {old : Stage} {xs ys : List Element} (one other : Exchange) → AreFilms old.session.films
-    → (way : PathDone old xs) (also : PathDone old ys) → AreAlike (joined (exchange_of xs) one) (joined (exchange_of ys) other)
+    → (way : PathDone old xs) (also : PathDone old ys)
+    → AreAlike (joined (exchange_of xs) one) (joined (exchange_of ys) other)
     → SameEnds way.last also.last (elements_bytes xs) (elements_bytes ys) one other
 ends_same {xs = []} {ys = []} one other films way also alike =
-    record { last_is = also.goes ∙ sym way.goes; bytes = refl; later = record { answers = alike.answers; memory = alike.memory } }
+    record {
+      last_is = also.goes ∙ sym way.goes;
+      bytes = refl;
+      later = record { answers = alike.answers; memory = alike.memory };
+    }
 ends_same {old} {xs = []} {ys = y ∷ ys} one other films way also alike =
     absurd (done_goes old also.goes.0 y (subst IsDrained way.goes way.done) also.goes.1.0)
 ends_same {old} {xs = x ∷ xs} {ys = []} one other films way also alike =

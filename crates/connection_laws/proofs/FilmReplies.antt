@@ -135,7 +135,8 @@ film_answer {b} {h} {start = start} play few =
 
 pub play_begun : {b : Beginning} {old new : SessionState} {message : List ℕ} {outcome : Outcome} → IsWaiting b old
     → HasValidIds old → (heard : HasHeard old message outcome new) → message ≡ play_text b.wish b.session
-    → (begins : Begins old heard.asking.awaited outcome new) → IsMessage new.text → IsPlayBegun b begins.admitted.start old new
+    → (begins : Begins old heard.asking.awaited outcome new) → IsMessage new.text
+    → IsPlayBegun b begins.admitted.start old new
 play_begun {b} {old} {new} {outcome = outcome} waits valid heard is begins whole =
     let asking = heard.asking in
     let h : HeardMessage = heard_by heard.hears in

@@ -16,7 +16,8 @@ use Rattle.connection_laws.specs.InputSplits.{Beginning, InputSplit, HeardReques
 use Rattle.connection_laws.specs.InputSplits.{answer_in, answers_in, heard_in, heard_requests_in}
 use Rattle.connection_laws.proofs.KeptParts.{stepped_names}
 use Rattle.connection_laws.proofs.UniqueResults.{steps_same}
-use Rattle.connection_laws.proofs.ElementPaths.{elements_bytes, GoesAll, Path, Element, ends_same, goes_films, goes_grow}
+use Rattle.connection_laws.proofs.ElementPaths.{elements_bytes, GoesAll, Path, Element, ends_same, goes_films}
+use Rattle.connection_laws.proofs.ElementPaths.{goes_grow}
 use Rattle.connection_laws.proofs.ElementPaths.{longer, path_of, elements_answers, Exchange}
 use Rattle.connection_laws.proofs.ElementPaths.{no_exchange, joined, joined_assoc, exchange_of, join_exchange}
 use Rattle.connection_laws.proofs.ElementPaths.{takings_exchange, way_then, Way, PathDone, path_moved, AreAlike}
@@ -83,7 +84,8 @@ legs_hearings legs = (legs_exchange legs).hearings
 elements_join : (xs ys : List ℕ) (one two : List Element)
     → elements_exchange (xs ++ ys) (one ++ two) ≡ joined (elements_exchange xs one) (elements_exchange ys two)
 elements_join xs ys one two =
-    ap₂ (λ hs (e : Exchange). record e { heard = hs }) (map-append (λ (byte : ℕ). HeardBytes (byte ∷ [])) xs ys) (join_exchange one two)
+    ap₂ (λ hs (e : Exchange). record e { heard = hs }) (map-append (λ (byte : ℕ). HeardBytes (byte ∷ [])) xs ys)
+    (join_exchange one two)
 
 -- a course from a place on: the bytes that came before the next slot, and then slot after slot
 record Split (base new : Stage) (all : Exchange) : Type 0 where
@@ -337,7 +339,8 @@ whole_split : (beginning : Beginning) (cutting : InputSplit beginning) → Split
     (rounds_exchange (first_of beginning) cutting.rounds cutting.last cutting.takes)
 whole_split beginning cutting =
     (rounds_split (first_of beginning) cutting.last cutting.rounds cutting.takes
-    (inl (record { torn = refl; waits = inl (inl refl) }))).each (first_of beginning) (record { bytes = []; way = record { elements = []; goes = refl } })
+    (inl (record { torn = refl; waits = inl (inl refl) }))).each (first_of beginning)
+    (record { bytes = []; way = record { elements = []; goes = refl } })
 
 pub two_cuttings : (beginning : Beginning) (one other : InputSplit beginning) → AreFilms beginning.films
     → HaveSameInput beginning one other → HaveSameOutput beginning one other

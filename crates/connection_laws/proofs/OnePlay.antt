@@ -167,7 +167,8 @@ module _ {b : Beginning} {out : Outlook} (taken : Taken b out) where
   begun_same : IsPlayTaken → (begins : PlayBegins)
       → IsPlayBegun out (play_by begins.prepared begins.admitted.start later.askings) later.askings
   begun_same play begins =
-      let all : play_by begins.prepared begins.admitted.start later.askings ∷ plays_of later.askings ≡ out.play ∷ out.others =
+      let all : play_by begins.prepared begins.admitted.start later.askings ∷ plays_of later.askings
+      ≡ out.play ∷ out.others =
       sym (ap (λ l. l ++ plays_of later.askings) (begun_is begins later.askings)) ∙ play.plays in
       record { same = cc; rest = cc }
 
@@ -175,7 +176,8 @@ module _ {b : Beginning} {out : Outlook} (taken : Taken b out) where
   begun_play : IsPlayTaken → PlayBegins → IsOnePlay b out old.session.heard 0 (old.session.heard ∷ later.slots)
   begun_play play begins =
       let begun = begun_same play begins in
-      let hears = play_heard (heard_by heard.hears) (record { rest = play.waits.stands.rest; asks = begins.asked_is }) in
+      let hears = play_heard (heard_by heard.hears)
+      (record { rest = play.waits.stands.rest; asks = begins.asked_is }) in
       let late : old.session.heard < out.play.start =
       subst (λ (p : FilmPlay). old.session.heard < p.start) begun.same begins.admitted.later in
       record {

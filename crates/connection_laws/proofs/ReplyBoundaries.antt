@@ -76,7 +76,8 @@ begins_goes {old} begins = record {
       (omega arith) begins.pacing.begins in
       rw begins.idle (record {
         from = (omega arith, there.from);
-        later = rw made (record { starts = (begins.admitted.later, there.later.starts); begins = inl (omega arith, starts) });
+        later = rw made
+            (record { starts = (begins.admitted.later, there.later.starts); begins = inl (omega arith, starts) });
         stand = rw made (subst (λ plan. AreSent (record (play_by begins.prepared begins.admitted.start askings) {
           plan = plan;
           keep = kept_in askings (total_bytes plan);
@@ -220,7 +221,8 @@ pub record SlotStart (state : State) (waits : Bool) : Type 0 where
 
 pub record SlotMoves {state : State} {waits : Bool} (start : SlotStart state waits) : Type 0 where
   pub after : Option ℕ
-  pub sound : IsSound (sends_in (state_after_slot waits state start.now.slot)) (waits_after waits state start.now.slot) start.now.slot
+  pub sound : IsSound (sends_in (state_after_slot waits state start.now.slot))
+      (waits_after waits state start.now.slot) start.now.slot
   pub held : IsHeld after (sends_in (state_after_slot waits state start.now.slot))
       (waits_after waits state start.now.slot) start.now.slot
   pub goes_on : GoesTo (point (sends_in state) start.now.heard start.pending)
@@ -231,7 +233,8 @@ pub record SlotMoves {state : State} {waits : Bool} (start : SlotStart state wai
 slot_goes : {waits between : Bool} {pending : Option ℕ} {sends after : Sends} (s : PlaySlot waits between pending)
     → ((askings : List StationRequest) (come : ToCome) → s.now.slot ≤ come.end
     → Fits (point after s.now.slot (after_slot between pending)) askings come
-    → Stand sends askings (pending_then pending (piece_then (parts_piece (parts_in waits between s.p s.now.slot s.now.text)) come)))
+    → Stand sends askings
+    (pending_then pending (piece_then (parts_piece (parts_in waits between s.p s.now.slot s.now.text)) come)))
     → GoesTo (point sends s.now.heard pending) (point after s.now.slot (after_slot between pending))
     (parts_piece (parts_in waits between s.p s.now.slot s.now.text))
 slot_goes s stand = record {
@@ -296,7 +299,8 @@ ending_sound {between = false} s last = (
 )
 
 ending_held : {between : Bool} {pending : Option ℕ} (s : PlaySlot true between pending)
-    → IsHeld (after_slot between pending) (ends_in between (sent_through s.now.slot s.p)) (if between then false else true)
+    → IsHeld (after_slot between pending) (ends_in between (sent_through s.now.slot s.p))
+    (if between then false else true)
     s.now.slot
 ending_held {pending = None} s = absurd (true≢false s.held)
 ending_held {between = true} {pending = Some taken} s = refl

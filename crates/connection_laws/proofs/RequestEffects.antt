@@ -86,7 +86,8 @@ pub data RequestAnswer : SessionState → SessionState → Outcome → SessionSt
       → RequestAnswer old (asking_for old (Look sequence) old.text (old.looks_left - 1)) (Entered placed)
       (after_look (asking_for old (Look sequence) old.text (old.looks_left - 1)) placed.place now at booked)
   JournalFull : {old : SessionState} {awaited : Awaited} {text : List ℕ} {looks more entries live : ℕ}
-      → looks ≡ old.looks_left - look_in awaited → RequestAnswer old (asking_for old awaited text looks) (WasFull more entries live)
+      → looks ≡ old.looks_left - look_in awaited
+      → RequestAnswer old (asking_for old awaited text looks) (WasFull more entries live)
       (after_full (asking_for old awaited text looks) entries live)
   OfferAnswer : {old : SessionState} {sequence at_slot : ℕ} {note : OfferNote}
       → RequestAnswer old (asking_for old (Offer sequence) old.text old.looks_left) (Offered at_slot note)
@@ -135,7 +136,8 @@ answer_of {old} {new = new} {outcome = o} (SetsUp text setup init ask_is is) =
     (record old { text = text; waits = true; state = Ready setup None })) (sym init) (setup_answer old text setup o new))
 answer_of {old} {new = new} {outcome = o} (AsksPlay play ask_is is) =
     rw (ask_is, is) (subst (λ st. Answers o new (record old { state = st }) (AskPlay play.prepared.plan)
-    (record old { state = st; awaited = Play play.prepared; text = play.text })) (sym play.ready) (play_answer play o new))
+    (record old { state = st; awaited = Play play.prepared; text = play.text })) (sym play.ready)
+    (play_answer play o new))
 answer_of {old} {new = new} {outcome = o} (Stops halt ask_is is) =
     rw (ask_is, is) (subst (λ st. Answers o new (record old { state = st }) (AskHalt halt.keep) (at_halt halt))
     (sym halt.playing) (halt_answer halt o new))

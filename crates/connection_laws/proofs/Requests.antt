@@ -2,7 +2,8 @@
 -- first of them, each complete.
 use Rattle.std.proofs.Common.{◌≡◌, ◌⊎◌, ℕ, ◌<◌, ◌++◌, ◌||◌, ◌==◌, if◌then◌else◌, Bool, true, false, List, ◌∷◌, Ok, Err}
 use Rattle.std.proofs.Common.{length, take, drop, map, get_or, refl, ap, sym, ◌∙◌, subst, inl, inr, arith, []}
-use Rattle.std.proofs.lemmas.List.{append-nil, append_assoc, get_or-take, drop_at, take-append-drop, take_at, map-append}
+use Rattle.std.proofs.lemmas.List.{append-nil, append_assoc, get_or-take, drop_at, take-append-drop, take_at}
+use Rattle.std.proofs.lemmas.List.{map-append}
 use Rattle.vod_base.specs.Links.{IoEvent, HeardBytes, HeardSlot}
 use Rattle.interleave.specs.Heads.{is_line_end}
 use Rattle.interleave.specs.Elements.{IsFirst, StartsMessage}

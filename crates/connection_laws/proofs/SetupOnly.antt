@@ -53,7 +53,8 @@ no_play_begins {old} request stands none askings =
       | Stays same still ↦ still.none askings
       | Starts begins ↦
           let heard = request.replied.heard in
-          let taken = (play_started (heard_by heard.hears) (record { rest = stands.rest; asks = begins.asked_is })).play.taken in
+          let taken = (play_started (heard_by heard.hears)
+          (record { rest = stands.rest; asks = begins.asked_is })).play.taken in
           absurd (none taken.request taken.is_request taken.judged.talk.spoken.named)
       | Ends halts ↦ halts.none askings
     ]

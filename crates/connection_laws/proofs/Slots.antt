@@ -2,7 +2,8 @@
 use Rattle.std.proofs.Common.{◌≡◌, ℕ, ◌+◌, ◌≤◌, ◌&&◌, if◌then◌else◌, Bool, true, false, length, refl, sym}
 use Rattle.std.proofs.Common.{ap, ◌∙◌, subst, arith}
 use Rattle.film_frames.specs.Tracks.{IsBoundary, framed_bytes}
-use Rattle.pacer.specs.PacerStates.{IsPacerState, PacerState, after_step, first_slots, next_boundary, stands_at_boundary}
+use Rattle.pacer.specs.PacerStates.{IsPacerState, PacerState, after_step, first_slots, next_boundary}
+use Rattle.pacer.specs.PacerStates.{stands_at_boundary}
 use Rattle.pacer.proofs.PacerStateLemmas.{boundary-from}
 use Rattle.session.specs.declared.states.Play.{Play as Played}
 use Rattle.session.specs.declared.states.Stop.{Stop}

@@ -227,7 +227,8 @@ pub record AfterSlot {waits between : Bool} {pending : Option ℕ} (s : PlaySlot
   pub due : (taken : ℕ) → min (first_slots s.p.plan (taken + 1 - s.p.start)) s.p.keep ≤ keep
       → due_of taken (play_with s.p keep) ≡ min (first_slots s.p.plan (taken + 1 - s.p.start)) s.p.keep
   pub after : AreLater s.now.slot plays
-  pub stand : StandAt (play_with s.p keep) (due_by s.p s.now.slot) plays (pending_then (after_slot between pending) come)
+  pub stand : StandAt (play_with s.p keep) (due_by s.p s.now.slot) plays
+      (pending_then (after_slot between pending) come)
 
 -- the first boundary from what was due on is reached
 next_reached : {taken : ℕ} (s : PlaySlot true true (Some taken)) → IsAtNext (after_step true s.now.slot s.p)
@@ -313,7 +314,8 @@ slot_at {waits = true} {between = true} {pending = Some taken} s next = reply_sl
 
 -- whether a reply is held up then
 pub slot_held : {waits between : Bool} {pending : Option ℕ} (s : PlaySlot waits between pending)
-    → IsHeld (after_slot between pending) (Going (sent_through s.now.slot s.p)) (if waits && between then false else waits)
+    → IsHeld (after_slot between pending) (Going (sent_through s.now.slot s.p))
+    (if waits && between then false else waits)
     s.now.slot
 slot_held {waits = true} {pending = None} s = absurd (true≢false s.held)
 slot_held {waits = false} {pending = Some taken} s = absurd (true≢false (sym s.held.0))

@@ -215,8 +215,8 @@ module _ (r : TwoRequests) where
   plays_once (Ready setup paused) authority is its =
       let range = header_value request.head.now (codes "Range") in
       let call = play_call request.sequence authority setup in
-      let planned = subst (λ h. IsPlanned old setup paused (header_value h (codes "Range")) its.planned) alike.parts.head_is
-      its.is_planned in
+      let planned = subst (λ h. IsPlanned old setup paused (header_value h (codes "Range")) its.planned)
+      alike.parts.head_is its.is_planned in
       let asks = subst (λ s. AsksPlayOr old (play_call s authority setup) its.planned again other)
       alike.parts.sequence_is its.asks in
       elim (planned_once (record { old = old; setup = setup; paused = paused; range = range }) is.planned its.planned

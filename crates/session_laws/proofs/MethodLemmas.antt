@@ -618,7 +618,8 @@ offer_ready h r wait offer waits =
     let t = topic_taken h r.request OfferTopic offer.is offer.body in
     elim (offer_taken t r.ready) [
       | inl short ↦
-          absurd (short.none wait (has_wait (subst (λ (x : List ℕ). IsWaitIn x wait) (sym t.alike.parts.head_is) waits)))
+          absurd (short.none wait
+          (has_wait (subst (λ (x : List ℕ). IsWaitIn x wait) (sym t.alike.parts.head_is) waits)))
       | inr offers ↦
           subst (λ n. IsOfferAskedOf h.old h.message h.ask h.new ⊎ PlanRefusal h.old r.setup r.paused None n h.ask h.new)
           t.alike.parts.sequence_is (offers_done h offers.offers)

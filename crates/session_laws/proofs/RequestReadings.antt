@@ -14,7 +14,8 @@ use Rattle.rtsp_replies.specs.Replies.{public_text}
 use Rattle.session.specs.declared.refusals.Task.{Task}
 use Rattle.session.specs.declared.refusals.Task.TheVariants.{Options as ToOptions, Describe as ToDescribe}
 use Rattle.session.specs.declared.refusals.Task.TheVariants.{Setup as ToSetup, Play as ToPlay}
-use Rattle.session.specs.Methods.{Describes, GetsParameter, HearsRequest, IsRefused, IsReplied, Pauses, Plays, SetsUp, Takes}
+use Rattle.session.specs.Methods.{Describes, GetsParameter, HearsRequest, IsRefused, IsReplied, Pauses, Plays, SetsUp}
+use Rattle.session.specs.Methods.{Takes}
 use Rattle.session.specs.Methods.{TearsDown}
 use Rattle.session.specs.RefusalOrder.{IsJudged, IsOnFilm, IsReadAs, IsTaskOf, IsTimely, method_of, FitsSession}
 use Rattle.session.specs.RefusalOrder.{FitsState, HasFilm, IsOwnTalk, IsSpoken, IsTaken}
@@ -77,7 +78,8 @@ abbrev PassesAt : Judging → ℕ → Type 0
 PassesAt j zero = (m : Method) × (j.name ≡ name_of m)
 PassesAt j (suc zero) = required_of j.head ≡ None
 PassesAt j (suc (suc zero)) = (m : Method) × ((j.name ≡ name_of m) × Owns j m)
-PassesAt j (suc (suc (suc zero))) = (m : Method) × ((j.name ≡ name_of m) × ((m ≡ Options) ⊎ HasFilm j.old.films j.old.state j.url m))
+PassesAt j (suc (suc (suc zero))) = (m : Method)
+    × ((j.name ≡ name_of m) × ((m ≡ Options) ⊎ HasFilm j.old.films j.old.state j.url m))
 PassesAt j (suc (suc (suc (suc zero)))) = (m : Method) × ((j.name ≡ name_of m) × HasTime j m)
 PassesAt j _ = ⊥
 
@@ -109,7 +111,9 @@ one_more j n before at = below_more (PassesAt j) n before at
 -- a request of a method that requires no option, of its session, of its film
 spoken_below : {m : Method} (old : SessionState) (request : Request) → IsSpoken request m
     → PassesBelow (judging old request) 2
-spoken_below {m} old request spoken = one_more (judging old request) 1 (one_more (judging old request) 0 (none_below (judging old request)) (m, spoken.named)) spoken.free
+spoken_below {m} old request spoken =
+    let j = judging old request in
+    one_more j 1 (one_more j 0 (none_below j) (m, spoken.named)) spoken.free
 
 talk_below : {m : Method} (old : SessionState) (request : Request) → IsOwnTalk old.id old.state request m
     → PassesBelow (judging old request) 3
@@ -155,7 +159,8 @@ passes_of {request} {task} old is = record {
 stops : (old : SessionState) (request : Request) (judgement : Result Task Refusal)
     → IsJudged old.films old.id old.state request judgement → StopsAt (judging old request) (rank judgement)
 stops old request (Ok task) is = stops_last old request (passes_of old is)
-stops old request (Err Unknown) is = record { before = none_below (judging old request); at = λ has. is.none has.0 has.1 }
+stops old request (Err Unknown) is =
+    record { before = none_below (judging old request); at = λ has. is.none has.0 has.1 }
 stops old request (Err Required) is = record {
   before = one_more (judging old request) 0 (none_below (judging old request)) (is.method, is.named);
   at = λ free. let some = is.required in let no : ⊥ = cc (free, some) in no;
@@ -318,8 +323,8 @@ pub heard_method : (h : HeardMessage) (request : Request) (m : Method) → IsRea
     → request.method.now ≡ name_of m → HeardMethod h request m
 heard_method h request m is method =
     let r = reading_of h request is in
-    (elim r.hears.judgement as (λ j. IsJudged h.old.films h.old.id h.old.state r.other j → Takes h.old r.other j h.ask h.new
-    → HeardMethod h request m) [
+    (elim r.hears.judgement as (λ j. IsJudged h.old.films h.old.id h.old.state r.other j
+    → Takes h.old r.other j h.ask h.new → HeardMethod h request m) [
       | Ok task ↦ λ judged takes.
           let same : method_of task ≡ m = method_once r.other.method.now (method_of task) m judged.talk.spoken.named
           (r.alike.parts.method_is ∙ method) in

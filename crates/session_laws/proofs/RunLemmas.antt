@@ -154,7 +154,8 @@ runs_by h (StartsPlay play planned asks planned_is) =
       ready = play.ready;
       at = planned_is.at;
       next = subst (λ x. IsNextRun h.old asks.stored play.setup play.paused x planned.counts) (sym planned_is.run_is)
-          (subst (IsNextRun h.old asks.stored play.setup play.paused (run_of planned_is.wanted)) (sym planned_is.counts_is) next);
+          (subst (IsNextRun h.old asks.stored play.setup play.paused (run_of planned_is.wanted))
+          (sym planned_is.counts_is) next);
       frames = refl;
     }) asks.command asks.state
 runs_by h (HaltsPlay taken hand is) =

@@ -1,5 +1,5 @@
--- The terms in which the laws of a session are stated: a session and what it receives, the requests,
--- and the runs of films that it plays.
+-- The terms in which the laws of a session are stated: a session and what it receives, the
+-- requests, and the runs of films that it plays.
 pub use Rattle.film_frames.specs.declared.stored_films.Stored.{Stored}
 pub use Rattle.film_run.specs.declared.runs.Run.{Run}
 pub use Rattle.film_streams.specs.declared.settings.Settings.{Settings}
