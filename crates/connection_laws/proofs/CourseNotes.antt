@@ -23,11 +23,11 @@ use Rattle.connection_laws.proofs.PlayNotes.{unasked_turn, until_append}
 use Rattle.connection_laws.proofs.StationAnswers.{closing, closes_as, halt_of}
 use Rattle.connection_laws.proofs.CourseTurns.{IsKeptByDoings, doings_kept, all_calls, turns_told}
 use Rattle.connection_laws.proofs.KeptParts.{slot_keeps, state_keeps}
+use Rattle.film_run.specs.declared.runs.Run.{Run}
 use Rattle.slot_calendar.specs.Plays.{Play as Booked}
 use Rattle.admission.specs.Histories.{play_admitted}
 use Rattle.admission.specs.Makers.{PlacedEntry}
 use Rattle.film_streams.specs.declared.setups.Setup.{Setup}
-use Rattle.session.specs.declared.states.Prepared.{Prepared}
 use Rattle.conn.specs.EventSteps.{entries_in}
 use Rattle.connection_laws.specs.Plays.{booked_by, kept_among}
 use Rattle.session_laws.proofs.RunLemmas.{AskedPlay}
@@ -206,16 +206,16 @@ other_noted : (asking : SessionState) (placed : PlacedEntry) → asks_play askin
 other_noted asking placed other none later = rw (no_note asking.state asking.awaited placed later.turns other, none)
 
 -- the note of a play is what its entry records, and what is kept by what comes later
-note_is : (setup : Setup) (prepared : Prepared) (place : ℕ) (admitted : Option Booked) (later : Sequel)
-    → map noted_play (noted_for setup prepared place admitted later.turns)
+note_is : (setup : Setup) (run : Run) (place : ℕ) (admitted : Option Booked) (later : Sequel)
+    → map noted_play (noted_for setup run place admitted later.turns)
     ≡ map (placed_play place) (booked_by admitted later.made)
-note_is setup prepared place None later = refl
-note_is setup prepared place (Some booked) later = rw (later.keeps booked.keep)
+note_is setup run place None later = refl
+note_is setup run place (Some booked) later = rw (later.keeps booked.keep)
 
 play_noted : {base : SessionState} (play : AskedPlay base) (placed : PlacedEntry)
     → IsNoted (at_play play) (Entered placed)
 play_noted play placed later =
-    note_is play.setup play.prepared placed.place (play_admitted placed.entry.command placed.entry.answer) later
+    note_is play.setup play.prepared.run placed.place (play_admitted placed.entry.command placed.entry.answer) later
 
 -- by what was asked and answered
 answered_noted : {old asking new : SessionState} {outcome : Outcome} → RequestAnswer old asking outcome new

@@ -145,7 +145,7 @@ pub begun_note : {base : SessionState} {placed : PlacedEntry} {answer : Answer} 
     (later : List StationCall)
     → IsPlayEntry (at_play play) play.prepared.plan placed answer
     → notes_of_calls (at_play play) (Entered placed) later
-    ≡ noted_for play.setup play.prepared placed.place
+    ≡ noted_for play.setup play.prepared.run placed.place
     (play_admitted (play_of base.heard play.prepared.plan) answer) later
 begun_note {placed} play later entry = rw (entry.command, entry.answer_is)
 

@@ -3,17 +3,17 @@ use Rattle.std.specs.Prelude.{ℕ, ◌+◌, ◌&&◌, if◌then◌else◌, List,
 use Rattle.std.specs.Prelude.{Option, Some, None}
 use Rattle.vod_base.specs.Links.{IoEvent, HeardSlot}
 use Rattle.slot_calendar.specs.Plays.{Play as Booked, truncated_play}
+use Rattle.film_run.specs.declared.runs.Run.{Run}
 use Rattle.admission.specs.Histories.{play_admitted}
 use Rattle.admission.specs.Makers.{PlacedEntry}
 use Rattle.session_records.specs.declared.notes.PlayNote.{PlayNote}
 use Rattle.session.specs.declared.states.Awaited.{Awaited}
 use Rattle.session.specs.declared.states.Awaited.TheVariants.{Play}
 use Rattle.film_streams.specs.declared.setups.Setup.{Setup}
-use Rattle.session.specs.declared.states.Prepared.{Prepared}
 use Rattle.session.specs.declared.states.State.{State}
 use Rattle.session.specs.declared.states.State.TheVariants.{Ready}
 use Rattle.session_laws.specs.PlayLaws.{slots_missed}
-use Rattle.session.specs.SlotSteps.{is_sending, is_taken, after_slot, note_of, play_of, start_in}
+use Rattle.session.specs.SlotSteps.{is_sending, is_taken, after_slot, start_in}
 use Rattle.session.specs.SessionStates.{SessionState}
 use Rattle.conn.specs.EventSteps.{Ending, AtElement, InSlot, InReply}
 use Rattle.conn.specs.EventSteps.{Ends, Round, Runs, RunsAll}
@@ -87,18 +87,30 @@ kept_later (turn ∷ turns) all = kept_with turn.outcome (kept_later turns all)
 
 -- the note of a play: where its entry stands in the journal, its plan and its start as the entry
 -- has them, what is kept of it, and the run that was asked for as the session was set up
-abbrev pub note_for : Setup → Prepared → ℕ → Booked → ℕ → PlayNote
-note_for setup prepared place booked keep =
-    record (note_of setup (play_of prepared place booked.start) keep) { plan = booked.segments }
+abbrev pub note_for : Setup → Run → ℕ → Booked → ℕ → PlayNote
+note_for setup run place booked keep = record {
+  place = place;
+  film = setup.film;
+  first_unit = run.first_unit;
+  end_unit = run.end_unit;
+  from_unit = run.from_unit;
+  buffer = setup.buffer;
+  delay = setup.delay;
+  played = run.played;
+  sent_before = run.sent;
+  plan = booked.segments;
+  start = booked.start;
+  keep = keep;
+}
 
-abbrev pub noted_for : Setup → Prepared → ℕ → Option Booked → List StationCall → List PlayNote
-noted_for setup prepared place None turns = []
-noted_for setup prepared place (Some booked) turns =
-    note_for setup prepared place booked (kept_later turns booked.keep) ∷ []
+abbrev pub noted_for : Setup → Run → ℕ → Option Booked → List StationCall → List PlayNote
+noted_for setup run place None turns = []
+noted_for setup run place (Some booked) turns =
+    note_for setup run place booked (kept_later turns booked.keep) ∷ []
 
 abbrev pub noted_entry : State → Awaited → PlacedEntry → List StationCall → List PlayNote
 noted_entry (Ready setup paused) (Play prepared) placed turns =
-    noted_for setup prepared placed.place
+    noted_for setup prepared.run placed.place
     (play_admitted placed.entry.command placed.entry.answer) turns
 noted_entry _ _ placed turns = []
 
