@@ -80,7 +80,9 @@ unsent_run first end =
 
 -- the run, and the client, that a note names
 abbrev pub run_in : PlayNote → Run
-run_in note = record (unsent_run note.first_unit note.end_unit) {
+run_in note = record {
+  first_unit = note.first_unit;
+  end_unit = note.end_unit;
   from_unit = note.from_unit;
   sent = note.sent_before;
   played = note.played;
