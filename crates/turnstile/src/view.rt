@@ -7,6 +7,7 @@ use std::marker::Model;
 
 /// What stays of a kept value: the steps of the link's capacity and the most entries. No value of
 /// it exists at run time.
+#[derive(Debug)]
 pub struct Terms {
     /// The steps of the capacity.
     pub steps: LinkedList<CapStep>,
@@ -15,6 +16,7 @@ pub struct Terms {
 }
 
 /// An entry that a pass made, with its place. No value of it exists at run time.
+#[derive(Debug)]
 pub struct OwnEntry {
     place: u64,
     entry: Entry,
@@ -29,6 +31,7 @@ impl Model for OwnEntry {
 }
 
 /// What a pass that was joined had made. No value of it exists at run time.
+#[derive(Debug)]
 pub struct Joined {
     /// Its number.
     pub number: u32,
@@ -37,6 +40,7 @@ pub struct Joined {
 }
 
 /// Where a pass stands: it has no ticket, or waits until its ticket is served, or holds the lock.
+#[derive(Debug)]
 pub enum PassStage {
     /// It has no ticket.
     Idle,
@@ -47,6 +51,7 @@ pub enum PassStage {
 }
 
 /// What a pass knows. No value of it exists at run time.
+#[derive(Debug)]
 pub struct View {
     /// Whether it was joined, and is no more.
     pub spent: bool,
