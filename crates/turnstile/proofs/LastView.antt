@@ -45,7 +45,8 @@ module _ (kept : KeptValue) where
       (λ (a : IsAway r.log p.state).
       let holder = (holder_of a).live in
       let apart = (apart_of kept p holder (not_holder (holder_of a) p.live (idle_free v.stage it.idle))).0 in
-      let few = (r.each holder.id holder.view holder.is_live).few in let count = (fits_of kept p).first it.first in
+      let few = (r.each holder.id holder.view holder.is_live).numbers.few in
+      let count = (fits_of kept p).numbers.first it.first in
       let some_one : 0 < holder.view.number =
       dite (ℕ_discrete holder.view.number 0) (λ e. absurd (apart.numbers (it.first ∙ sym e)))
       (λ (ne : holder.view.number ≢ 0). omega arith) in
@@ -65,10 +66,10 @@ module _ (kept : KeptValue) where
   pub closes : (p : Pass kept) → HasAll p.view → (table : TableId) {slot : Option B}
       → ((value : Option B) → get_elem? p.state.homes 0 ≡ some (some value) → slot ≡ value) → IsLast table p.view slot
   closes p it table at =
-      let h = all_home p it in let f = fits_of kept p in let count = f.first it.first in record {
+      let h = all_home p it in let f = fits_of kept p in let count = f.numbers.first it.first in record {
         value = h.value;
         slot_is = at (Some h.value) (ap (λ hs. get_elem? hs 0) h.home);
-        terms_are = h.terms_are ∙ sym f.terms_are;
+        terms_are = h.terms_are ∙ sym f.terms_are.0;
         whole = record {
           seen = subst (IsPrefix v.seen) (sym h.log_is) f.seen;
           mine = f.mine ∙ ap (entries_by v.number) (sym h.log_is);

@@ -131,19 +131,18 @@ module _ (kept : KeptValue) where
 
   -- a pass once one more number is given
   one_more : (p : step.Pass kept) (n : ℕ) → (p.view.number ≡ 0 → n ≡ p.rule.count + 1) → (p.view.number ≢ 0 → n ≡ 0)
-      → Fits terms p.rule.log (p.rule.count + 1) p.rule.served p.rule.drawn (record p.view { splits = n })
+      → Fits terms (record p.rule.lock { count = p.rule.count + 1 }) (record p.view { splits = n })
   one_more p n first others = let f = step.fits_of kept p in record {
-    terms_are = f.terms_are;
-    told_terms = f.told_terms;
-    seen = f.seen;
-    told = f.told;
-    mine = f.mine;
-    own = f.own;
-    past = λ k j at. let p = f.past k j at in
-        record { mine = p.mine; few = (let a = p.few in omega arith); other = p.other };
-    few = (let a = f.few in omega arith);
-    first = first;
-    others = others;
+    knows = record {
+      terms_are = f.terms_are;
+      seen = f.seen;
+      told = f.told;
+      mine = f.mine;
+      own = f.own;
+      past = λ k j at. let p = f.past k j at in
+          record { mine = p.mine; few = (let a = p.few in omega arith); other = p.other };
+      numbers = record { few = (let a = f.numbers.few in omega arith); first = first; others = others };
+    };
     turn = f.turn;
   }
 
@@ -151,12 +150,9 @@ module _ (kept : KeptValue) where
   abbrev numbered : (p : step.Pass kept) → p.view.stage ≡ Idle → p.view.number ≡ 0 → p.view.splits + 1 < 2 ^ 32
       → step.Next kept p
   numbered p idle head few =
-      let count = (step.fits_of kept p).first head in let w : View = view_after_split v in record {
+      let count = (step.fits_of kept p).numbers.first head in let w : View = view_after_split v in record {
         new = w;
-        log = r.log;
-        count = r.count + 1;
-        drawn = r.drawn;
-        served = r.served;
+        lock = record r.lock { count = r.count + 1 };
         words = s.words;
         homes = s.homes;
         words_are = r.words;
@@ -166,7 +162,7 @@ module _ (kept : KeptValue) where
         fits = λ _. one_more p (v.splits + 1) (λ _. omega arith) (λ other. absurd (other head));
         others = λ o other. let q = step.at kept p o in
             one_more q o.view.splits (λ e. absurd ((step.apart_of kept p o other).0.numbers (head ∙ sym e)))
-            (step.fits_of kept q).others;
+            (step.fits_of kept q).numbers.others;
         place = step.place_other kept p w (idle_free v.stage idle) (idle_free v.stage idle) s.words;
       }
     where
@@ -182,7 +178,7 @@ module _ (kept : KeptValue) where
         rule = r;
         live = record { id = id; view = v; is_live = (at, it.left) };
       } in
-      let f = step.fits_of kept p in let count = f.first head in
+      let f = step.fits_of kept p in let count = f.numbers.first head in
       let w : View = view_after_split v in let x : View = split_view v in let views : List View = set s.views id w in
       let r' = step.steps kept p (numbered p it.idle head few)
       record {
@@ -195,14 +191,11 @@ module _ (kept : KeptValue) where
       let none : entries_by (v.splits + 1) r.log ≡ [] = r.makers (v.splits + 1) (omega arith) in
       let fresh : (j : ℕ) (u : View) → IsLive views j u → Both x u =
       live_set (λ _ u. Both x u) s.views id w
-      (λ _. new_apart v w (λ k j at. let a = (f.past k j at).few in omega arith) (let a = f.few in omega arith))
+      (λ _. new_apart v w (λ k j at. let a = (f.past k j at).few in omega arith) (let a = f.numbers.few in omega arith))
       (λ j u _ l. let g = r.each j u l in
-      new_apart v u (λ k j at. let a = (g.past k j at).few in omega arith) (let a = g.few in omega arith)) in
+      new_apart v u (λ k j at. let a = (g.past k j at).few in omega arith) (let a = g.numbers.few in omega arith)) in
       record {
-        log = r.log;
-        count = r.count + 1;
-        drawn = r.drawn;
-        served = r.served;
+        lock = r'.lock;
         words = r.words;
         few = r'.few;
         queue = (let more = total_push ticket_count views x in let old = r'.queue in omega arith);
@@ -210,18 +203,17 @@ module _ (kept : KeptValue) where
             (let more = total_push pass_count views x in let same = total_set pass_count s.views id v w at in
             let equal : pass_count v ≡ pass_count w = refl in let old = r.passes in omega arith);
         makers = r'.makers;
-        each = live_push (λ _ u. Fits terms r.log (r.count + 1) r.served r.drawn u) views x
+        each = live_push (λ _ u. Fits terms r'.lock u) views x
             record {
-              terms_are = f.terms_are;
-              told_terms = f.terms_are;
-              seen = f.seen;
-              told = (v.seen, refl);
-              mine = sym none;
-              own = sym (made_nothing (v.splits + 1) v.seen r.log f.seen none);
-              past = λ k j e. absurd (none_there k j e);
-              few = omega arith;
-              first = λ e. absurd (omega arith);
-              others = λ _. refl;
+              knows = record {
+                terms_are = (f.terms_are.0, f.terms_are.0);
+                seen = f.seen;
+                told = (v.seen, refl);
+                mine = sym none;
+                own = sym (made_nothing (v.splits + 1) v.seen r.log f.seen none);
+                past = λ k j e. absurd (none_there k j e);
+                numbers = record { few = omega arith; first = λ e. absurd (omega arith); others = λ _. refl };
+              };
               turn = tt;
             }
             r'.each;
@@ -249,10 +241,7 @@ module _ (kept : KeptValue) where
   abbrev gone : (p : step.Pass kept) → p.view.stage ≡ Idle → step.Next kept p
   gone p idle = let none : ticket_count p.view ≡ 0 = tickets_of p.view p.is_live.1 idle in record {
     new = spent_view;
-    log = p.rule.log;
-    count = p.rule.count;
-    drawn = p.rule.drawn;
-    served = p.rule.served;
+    lock = p.rule.lock;
     words = p.state.words;
     homes = p.state.homes;
     words_are = p.rule.words;
@@ -265,7 +254,7 @@ module _ (kept : KeptValue) where
   }
 
   fits_join : (p : step.Pass kept) (o : Live p.state.views) → o.id ≢ p.id
-      → Fits terms p.rule.log p.rule.count p.rule.served p.rule.drawn (view_after_join p.view o.view)
+      → Fits terms p.rule.lock (view_after_join p.view o.view)
   fits_join p o other =
       let f = step.fits_of kept p in let g = step.fits_of kept (step.at kept p o) in
       let theirs = (step.apart_of kept p o other).1 in let v = p.view in let w = o.view in
@@ -274,18 +263,17 @@ module _ (kept : KeptValue) where
         second = g.seen;
         own = sym f.own ∙ f.mine;
       } in record {
-        terms_are = f.terms_are;
-        told_terms = g.terms_are;
-        seen = h.0;
-        told = h.1;
-        mine = f.mine;
-        own = f.mine ∙ sym h.2;
-        past = each_joined v w (IsPast p.rule.log p.rule.count v.number) f.past
-            record { mine = g.mine; few = g.few; other = theirs.numbers }
-            (λ k j at. let q = g.past k j at in record { mine = q.mine; few = q.few; other = theirs.past k j at });
-        few = f.few;
-        first = f.first;
-        others = f.others;
+        knows = record {
+          terms_are = (f.terms_are.0, g.terms_are.0);
+          seen = h.0;
+          told = h.1;
+          mine = f.mine;
+          own = f.mine ∙ sym h.2;
+          past = each_joined v w (IsPast p.rule.log p.rule.count v.number) f.past
+              record { mine = g.mine; few = g.numbers.few; other = theirs.numbers }
+              (λ k j at. let q = g.past k j at in record { mine = q.mine; few = q.few; other = theirs.past k j at });
+          numbers = f.numbers;
+        };
         turn = f.turn;
       }
 
@@ -314,10 +302,7 @@ module _ (kept : KeptValue) where
       (sym (set_apart s.views id other b spent_view apart))
       (step.changes kept q record {
         new = b;
-        log = r.log;
-        count = r.count;
-        drawn = r.drawn;
-        served = r.served;
+        lock = r.lock;
         words = s.words;
         homes = s.homes;
         words_are = r.words;
@@ -340,28 +325,27 @@ module _ (kept : KeptValue) where
   pub starts : (value : B) → entries value ≡ [] → terms_of value ≡ terms
       → Rule (opening (0 ∷ 0 ∷ 0 ∷ []) (Some value ∷ []) (first_view terms))
   starts value empty same = record {
-    log = [];
-    count = 0;
-    drawn = 0;
-    served = 0;
+    lock = record { log = []; count = 0; drawn = 0; served = 0 };
     words = refl;
     few = omega arith;
     queue = omega arith;
     passes = omega arith;
     makers = λ m _. refl;
-    each = λ i v live. only (λ _ v. Fits terms [] 0 0 0 v) (record {
-      terms_are = refl;
-      told_terms = refl;
-      seen = ([], refl);
-      told = ([], refl);
-      mine = refl;
-      own = refl;
-      past = λ k j e. absurd (none_there k j e);
-      few = omega arith;
-      first = λ _. refl;
-      others = λ _. refl;
-      turn = tt;
-    }) i v live;
+    each = λ i v live. only
+        (λ _ v. Fits terms (record { log = []; count = 0; drawn = 0; served = 0 }) v)
+        (record {
+          knows = record {
+            terms_are = (refl, refl);
+            seen = ([], refl);
+            told = ([], refl);
+            mine = refl;
+            own = refl;
+            past = λ k j e. absurd (none_there k j e);
+            numbers = record { few = omega arith; first = λ _. refl; others = λ _. refl };
+          };
+          turn = tt;
+        })
+        i v live;
     apart = λ i j v w ne l k. absurd (ne (only (λ i _. i ≡ 0) refl i v l ∙ sym (only (λ i _. i ≡ 0) refl j w k)));
     first_pass = record { place = 0; view = first_view terms; live = (refl, refl); number_is = refl };
     where_is = inl record {

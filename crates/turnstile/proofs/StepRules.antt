@@ -18,9 +18,11 @@ use Rattle.turnstile.specs.declared.view.PassStage.TheVariants.{Idle, Waits, Hol
 use Rattle.turnstile.specs.declared.view.Terms.{Terms}
 use Rattle.turnstile.specs.declared.view.View.{View}
 use Rattle.admission.specs.Makers.{entries_by}
-use Rattle.turnstile.specs.TurnRule.{pass_count, ticket_count, IsTicket, InTurn, Fits}
+use Rattle.turnstile.specs.TurnRule.{LockState, words_of, pass_count, ticket_count, IsTicket, InTurn, Fits}
 use Rattle.turnstile.specs.TurnRule.{Apart, IsAway, IsHome, IsRuled}
-use Rattle.turnstile.specs.TableSeats.{IsFree}
+use Rattle.turnstile.specs.TableSeats.{IsFree, IsSeated}
+use Rattle.atomic_table.specs.Seated.{TableId}
+use Rattle.atomic_table.specs.declared.shared.Seat.{Seat}
 use Rattle.turnstile.specs.Steps.{HasDrawn, HasLooked, HasCounted, HasLeft, HasTaken, HasRead}
 use Rattle.turnstile.specs.Steps.{IsTurn, IsWaiting, slot_list}
 use Rattle.turnstile.proofs.Prefixes.{prefix_self, prefix_trans, prefix_longer, made_other}
@@ -74,18 +76,16 @@ module _ (kept : KeptValue) where
   -- the state after a step of the pass, which leaves it with another view
   pub record Next (p : Pass) : Type 0 where
     pub new : View
-    pub log : List Entry
-    pub count : ℕ
-    pub drawn : ℕ
-    pub served : ℕ
+    pub lock : LockState
+    pub open lock use *
     pub words : List ℕ
     pub homes : Homes
-    pub words_are : words ≡ drawn % 2 ^ 64 ∷ served % 2 ^ 64 ∷ length log % 2 ^ 64 ∷ []
+    pub words_are : words ≡ words_of lock
     pub few : (count < 2 ^ 32) × (p.rule.count ≤ count)
     pub queue : served + ticket_count new + p.rule.drawn ≡ drawn + p.rule.served + ticket_count p.view
     pub makers : (m : ℕ) → count < m → entries_by m log ≡ []
-    pub fits : new.spent ≡ false → Fits terms log count served drawn new
-    pub others : (o : Live p.state.views) → o.id ≢ p.id → Fits terms log count served drawn o.view
+    pub fits : new.spent ≡ false → Fits terms lock new
+    pub others : (o : Live p.state.views) → o.id ≢ p.id → Fits terms lock o.view
     pub place : Place log record { words = words; homes = homes; views = set p.state.views p.id new }
 
   abbrev pub next_state : {p : Pass} → Next p → St
@@ -96,10 +96,7 @@ module _ (kept : KeptValue) where
       → (n.new.spent ≡ false → (o : Live p.state.views) → o.id ≢ p.id → Both n.new o.view)
       → (p.view.number ≡ 0 → (n.new.spent ≡ false) × (n.new.number ≡ 0)) → Rule (next_state n)
   changes p n apart keeps_first = record {
-    log = n.log;
-    count = n.count;
-    drawn = n.drawn;
-    served = n.served;
+    lock = n.lock;
     words = n.words_are;
     few = n.few.0;
     queue =
@@ -109,7 +106,7 @@ module _ (kept : KeptValue) where
         (let e = total_set pass_count views id v w p.is_live.0 in let a = lives v p.is_live.1 in
         let b = one_or_none w in let old = r.passes in let more = n.few.1 in omega arith);
     makers = n.makers;
-    each = live_set (λ _ u. Fits terms n.log n.count n.served n.drawn u) views id w n.fits
+    each = live_set (λ _ u. Fits terms n.lock u) views id w n.fits
         (λ j u other l. n.others (record { id = j; view = u; is_live = l }) other);
     apart = λ i j x y ne lx ly. live_set (λ i x. i ≢ j → Apart x y) views id w
         (λ left ne. live_set (λ j y. id ≢ j → Apart w y) views id w (λ _ same. absurd (same refl))
@@ -142,42 +139,24 @@ module _ (kept : KeptValue) where
   abbrev pub at : (p : Pass) → Live p.state.views → Pass
   at p o = record { state = p.state; rule = p.rule; live = o }
 
-  pub fits_of : (p : Pass) → Fits terms p.rule.log p.rule.count p.rule.served p.rule.drawn p.view
+  pub fits_of : (p : Pass) → Fits terms p.rule.lock p.view
   fits_of p = p.rule.each p.id p.view p.is_live
-
-  -- a pass at another stage, or when other tickets are out
-  pub restage : (p : Pass) (served drawn : ℕ) (st : PassStage) → InTurn served drawn st
-      → Fits terms p.rule.log p.rule.count served drawn (record p.view { stage = st })
-  restage p served drawn st turn = let f = fits_of p in record {
-    terms_are = f.terms_are;
-    told_terms = f.told_terms;
-    seen = f.seen;
-    told = f.told;
-    mine = f.mine;
-    own = f.own;
-    past = f.past;
-    few = f.few;
-    first = f.first;
-    others = f.others;
-    turn = turn;
-  }
 
   -- a pass once the list has an entry more, of another
   longer_list : (p : Pass) (e : Entry) → e.maker ≢ p.view.number
       → ((k : ℕ) (j : Joined) → get_elem? p.view.joined k ≡ some j → e.maker ≢ j.number)
-      → Fits terms (p.rule.log ++ e ∷ []) p.rule.count p.rule.served p.rule.drawn p.view
+      → Fits terms (record p.rule.lock { log = p.rule.log ++ e ∷ [] }) p.view
   longer_list p e other past = let f = fits_of p in let log = p.rule.log in record {
-    terms_are = f.terms_are;
-    told_terms = f.told_terms;
-    seen = prefix_longer p.view.seen log (e ∷ []) f.seen;
-    told = f.told;
-    mine = f.mine ∙ sym (made_other p.view.number log e other);
-    own = f.own;
-    past = λ k j at. let p = f.past k j at in
-        record { mine = p.mine ∙ sym (made_other j.number log e (past k j at)); few = p.few; other = p.other };
-    few = f.few;
-    first = f.first;
-    others = f.others;
+    knows = record {
+      terms_are = f.terms_are;
+      seen = prefix_longer p.view.seen log (e ∷ []) f.seen;
+      told = f.told;
+      mine = f.mine ∙ sym (made_other p.view.number log e other);
+      own = f.own;
+      past = λ k j at. let p = f.past k j at in
+          record { mine = p.mine ∙ sym (made_other j.number log e (past k j at)); few = p.few; other = p.other };
+      numbers = f.numbers;
+    };
     turn = f.turn;
   }
 
@@ -214,6 +193,11 @@ module _ (kept : KeptValue) where
       subst (λ (x : List ℕ × List View). Rule record { words = x.0; homes = s.homes; views = x.1 })
       (λ k. (sym (set-get_or s.words i 0) k, sym (set_again s.views p.id p.view p.is_live.0) k)) p.rule
 
+  -- what a pass owes to the table before it makes a step at a word of it
+  abbrev pub at_word : {id : TableId} {seat : Seat (Option B) View} {A : Type 0} → IsSeated id seat → (word : ℕ)
+      → word < 3 → A → (seat.table_id ≡ id) × (word < id.words) × A
+  at_word seat word low allowed = (seat.here, let words = seat.sized.words in omega arith, allowed)
+
   pub reads : (id slots : ℕ) (me : Me (Option B) View) → me.0.spent ≡ false
       → Allows Rule slots id me 0 (λ n. n) (HasRead me)
   reads id slots me left s r deep here low =
@@ -223,7 +207,7 @@ module _ (kept : KeptValue) where
         keeps,
         tt,
         unmoved p 0,
-        (refl, record { own = f.own; told = f.told; terms = f.told_terms ∙ sym f.terms_are }),
+        (refl, record { own = f.own; told = f.told; terms = f.terms_are.1 ∙ sym f.terms_are.0 }),
       )
 
   -- a pass that rests draws the next ticket
@@ -233,10 +217,7 @@ module _ (kept : KeptValue) where
       let w : View = record v { stage = Waits r.drawn } in
       let q1 : ticket_count w ≡ 1 = tickets_of w {st = Waits r.drawn} left refl in record {
         new = w;
-        log = r.log;
-        count = r.count;
-        drawn = r.drawn + 1;
-        served = r.served;
+        lock = record r.lock { drawn = r.drawn + 1 };
         words = set s.words 0 ((get_or s.words 0 0 + 1) % 2 ^ 64);
         homes = s.homes;
         words_are = ap (λ (ws : List ℕ). set ws 0 ((get_or ws 0 0 + 1) % 2 ^ 64)) r.words
@@ -244,10 +225,9 @@ module _ (kept : KeptValue) where
         few = (r.few, omega arith);
         queue = omega arith;
         makers = r.makers;
-        fits = λ _. restage p r.served (r.drawn + 1) (Waits r.drawn) (let q = r.queue in omega arith, omega arith);
-        others = λ o other.
-            restage (at p o) r.served (r.drawn + 1) o.view.stage
-            (turn_more r.served r.drawn o.view.stage (fits_of (at p o)).turn);
+        fits = λ _. record { knows = (fits_of p).knows; turn = (let q = r.queue in omega arith, omega arith) };
+        others = λ o other. let f = fits_of (at p o) in
+            record { knows = f.knows; turn = turn_more r.served r.drawn o.view.stage f.turn };
         place = place_other p w (idle_free v.stage idle)
             (waits_free (Waits r.drawn) r.drawn refl) (set s.words 0 ((get_or s.words 0 0 + 1) % 2 ^ 64));
       }
@@ -308,20 +288,18 @@ module _ (kept : KeptValue) where
 
   took_fits : (p : Pass) {t : ℕ} → p.view.stage ≡ Waits t → t ≡ p.rule.served
       → (h : IsHome entries terms_of terms p.rule.log p.state)
-      → Fits terms p.rule.log p.rule.count p.rule.served p.rule.drawn
-      (record p.view { stage = Holds t; seen = entries h.value })
+      → Fits terms p.rule.lock (record p.view { stage = Holds t; seen = entries h.value })
   took_fits p {t} is now h =
       let f = fits_of p in let v = p.view in let low = subst (InTurn p.rule.served p.rule.drawn) is f.turn in record {
-        terms_are = f.terms_are;
-        told_terms = f.told_terms;
-        seen = subst (λ (l : List Entry). IsPrefix l p.rule.log) (sym h.log_is) (prefix_self p.rule.log);
-        told = subst (IsPrefix v.told) (sym h.log_is) (prefix_trans v.told v.seen p.rule.log f.told f.seen);
-        mine = f.mine;
-        own = f.mine ∙ ap (entries_by v.number) (sym h.log_is);
-        past = f.past;
-        few = f.few;
-        first = f.first;
-        others = f.others;
+        knows = record {
+          terms_are = f.terms_are;
+          seen = subst (λ (l : List Entry). IsPrefix l p.rule.log) (sym h.log_is) (prefix_self p.rule.log);
+          told = subst (IsPrefix v.told) (sym h.log_is) (prefix_trans v.told v.seen p.rule.log f.told f.seen);
+          mine = f.mine;
+          own = f.mine ∙ ap (entries_by v.number) (sym h.log_is);
+          past = f.past;
+          numbers = f.numbers;
+        };
         turn = (now, low.1);
       }
 
@@ -333,10 +311,7 @@ module _ (kept : KeptValue) where
       let q0 : ticket_count v ≡ 1 = tickets_of v left is in
       let q1 : ticket_count w ≡ 1 = tickets_of w {st = Holds t} left refl in record {
         new = w;
-        log = r.log;
-        count = r.count;
-        drawn = r.drawn;
-        served = r.served;
+        lock = r.lock;
         words = set s.words 1 (get_or s.words 1 0);
         homes = set s.homes 0 none;
         words_are = set-get_or s.words 1 0 ∙ r.words;
@@ -374,7 +349,7 @@ module _ (kept : KeptValue) where
         value = h.value;
         view = refl;
         slot = ap (λ (cs : List (ℕ × Option B)). (0, Some h.value) ∷ cs) it.empty;
-        terms = h.terms_are ∙ sym f.terms_are;
+        terms = h.terms_are ∙ sym f.terms_are.0;
         longer = subst (IsPrefix v.seen) (sym h.log_is) f.seen;
         own = f.mine ∙ ap (entries_by v.number) (sym h.log_is);
       } in (
@@ -410,7 +385,7 @@ module _ (kept : KeptValue) where
       p : Pass
       p = record { state = s; rule = r; live = record { id = id; view = v; is_live = (here, left) } }
 
-      f : Fits terms r.log r.count r.served r.drawn v
+      f : Fits terms r.lock v
       f = fits_of p
 
       one_ticket : (u : ℕ) → v.stage ≡ Waits u → t ≡ u
@@ -420,10 +395,7 @@ module _ (kept : KeptValue) where
   abbrev counted : (p : Pass) {t : ℕ} → p.view.stage ≡ Holds t → (e : Entry) → e.maker ≡ p.view.number → Next p
   counted p {t} is e own = record {
     new = w;
-    log = log;
-    count = r.count;
-    drawn = r.drawn;
-    served = r.served;
+    lock = record r.lock { log = log };
     words = set s.words 2 ((get_or s.words 2 0 + 1) % 2 ^ 64);
     homes = s.homes;
     words_are = ap (λ (ws : List ℕ). set ws 2 ((get_or ws 2 0 + 1) % 2 ^ 64)) r.words
@@ -431,22 +403,21 @@ module _ (kept : KeptValue) where
         omega arith);
     few = (r.few, omega arith);
     queue = omega arith;
-    makers = λ m more. made_other m r.log e (λ same. let few = f.few in omega arith) ∙ r.makers m more;
+    makers = λ m more. made_other m r.log e (λ same. let few = f.numbers.few in omega arith) ∙ r.makers m more;
     fits = λ _. record {
-      terms_are = f.terms_are;
-      told_terms = f.told_terms;
-      seen = subst (λ (l : List Entry). IsPrefix l log) (sym all) (prefix_self log);
-      told = prefix_longer v.told v.seen (e ∷ []) f.told;
-      mine = ap (entries_by v.number) all;
-      own = refl;
-      past = λ k j at. let p = f.past k j at in record {
-        mine = p.mine ∙ sym (made_other j.number r.log e (λ same. p.other (sym same ∙ own)));
-        few = p.few;
-        other = p.other;
+      knows = record {
+        terms_are = f.terms_are;
+        seen = subst (λ (l : List Entry). IsPrefix l log) (sym all) (prefix_self log);
+        told = prefix_longer v.told v.seen (e ∷ []) f.told;
+        mine = ap (entries_by v.number) all;
+        own = refl;
+        past = λ k j at. let p = f.past k j at in record {
+          mine = p.mine ∙ sym (made_other j.number r.log e (λ same. p.other (sym same ∙ own)));
+          few = p.few;
+          other = p.other;
+        };
+        numbers = f.numbers;
       };
-      few = f.few;
-      first = f.first;
-      others = f.others;
       turn = f.turn;
     };
     others = λ o other. let both = apart_of p o other in
@@ -471,7 +442,7 @@ module _ (kept : KeptValue) where
       log : List Entry
       log = r.log ++ e ∷ []
 
-      f : Fits terms r.log r.count r.served r.drawn v
+      f : Fits terms r.lock v
       f = fits_of p
 
       all : v.seen ++ e ∷ [] ≡ log
@@ -516,10 +487,7 @@ module _ (kept : KeptValue) where
       let q0 : ticket_count v ≡ 1 = tickets_of v left is in
       let q1 : ticket_count w ≡ 0 = tickets_of w {st = Idle} left refl in record {
         new = w;
-        log = r.log;
-        count = r.count;
-        drawn = r.drawn;
-        served = r.served + 1;
+        lock = record r.lock { served = r.served + 1 };
         words = set s.words 1 ((get_or s.words 1 0 + 1) % 2 ^ 64);
         homes = put_back s.homes held;
         words_are = ap (λ (ws : List ℕ). set ws 1 ((get_or ws 1 0 + 1) % 2 ^ 64)) r.words
@@ -527,16 +495,15 @@ module _ (kept : KeptValue) where
         few = (r.few, omega arith);
         queue = omega arith;
         makers = r.makers;
-        fits = λ _. restage p (r.served + 1) r.drawn Idle tt;
-        others = λ o other.
-            restage (at p o) (r.served + 1) r.drawn o.view.stage
-            (turn_next r.served r.drawn o.view.stage (fits_of (at p o)).turn (not_now o other));
+        fits = λ _. record { knows = (fits_of p).knows; turn = tt };
+        others = λ o other. let f = fits_of (at p o) in
+            record { knows = f.knows; turn = turn_next r.served r.drawn o.view.stage f.turn (not_now o other) };
         place = inl record {
           value = turn.0;
           home = ap (put_back s.homes) turn.1.held
               ∙ ap (λ (hs : Homes). set hs 0 (some (Some turn.0))) (holder_here p is).0;
           log_is = turn.2 ∙ (holder_here p is).1;
-          terms_are = turn.3 ∙ (fits_of p).terms_are;
+          terms_are = turn.3 ∙ (fits_of p).terms_are.0;
           free = live_set (λ _ u. Free u.stage) s.views p.id w (λ _. idle_free Idle refl)
               (λ j u other l x holds. let o : Live s.views = record { id = j; view = u; is_live = l } in
               not_now o other (served_ticket (at p o) holds));

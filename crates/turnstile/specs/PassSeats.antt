@@ -1,19 +1,16 @@
 -- A pass and its seat, while it rests and while it holds the lock.
-use Rattle.std.specs.Prelude.{◌≡◌, ℕ, Option, None, length, false}
+use Rattle.std.specs.Prelude.{◌≡◌, ℕ, Option, None, length}
 use Rattle.atomic_table.specs.Seated.{TableId}
 use Rattle.atomic_table.specs.declared.shared.Seat.{Seat}
 use Rattle.turnstile.specs.declared.view.View.{View}
 use Rattle.admission.specs.Makers.{entries_by}
-use Rattle.turnstile.specs.Passes.{PassState}
+use Rattle.turnstile.specs.Passes.{PassState, first_pass}
 use Rattle.turnstile.specs.Steps.{IsTurn}
 
 -- a pass that rests with this view
 abbrev pub state_of_view : TableId → View → PassState
-state_of_view id v = record {
-  id = id;
-  has_turn = false;
+state_of_view id v = record (first_pass (record { id = id; terms = v.terms })) {
   number = v.number;
-  terms = v.terms;
   seen = v.seen;
   mine = v.mine;
   splits = v.splits;

@@ -14,6 +14,19 @@ use Rattle.turnstile.specs.declared.view.Terms.{Terms}
 use Rattle.turnstile.specs.declared.view.View.{View}
 use Rattle.admission.specs.Makers.{entries_by}
 
+-- where the lock stands: the entries that were made, the last number that was given, how many
+-- tickets were drawn, and the ticket that is served
+pub record LockState : Type 0 where
+  pub log : List Entry
+  pub count : ℕ
+  pub drawn : ℕ
+  pub served : ℕ
+
+-- the shared words then
+abbrev pub words_of : LockState → List ℕ
+words_of lock =
+    lock.drawn % 2 ^ 64 ∷ lock.served % 2 ^ 64 ∷ length lock.log % 2 ^ 64 ∷ []
+
 -- the numbers of f, added up
 abbrev pub total : (View → ℕ) → List View → ℕ
 total f [] = 0
@@ -39,9 +52,6 @@ IsTicket Idle t = ⊥
 IsTicket (Waits u) t = u ≡ t
 IsTicket (Holds u) t = u ≡ t
 
-abbrev pub IsHolder : View → ℕ → Type 0
-IsHolder v t = v.stage ≡ Holds t
-
 -- the tickets that are out stand from `served` up to `drawn`, and `served` holds the lock
 abbrev pub InTurn : ℕ → ℕ → PassStage → Type 0
 InTurn served drawn Idle = Unit {0}
@@ -54,20 +64,27 @@ pub record IsPast (log : List Entry) (count number : ℕ) (j : Joined) : Type 0 
   pub few : j.number ≤ count
   pub other : j.number ≢ number
 
--- what is true for a pass that isn't spent
-pub record Fits (terms : Terms) (log : List Entry) (count served drawn : ℕ) (v : View)
-    : Type 0 where
-  pub terms_are : v.terms ≡ terms
+-- all numbers were given by the first pass, whose own is 0
+pub record IsNumbered (count number splits : ℕ) : Type 0 where
+  pub few : number ≤ count
+  pub first : number ≡ 0 → splits ≡ count
+  pub others : number ≢ 0 → splits ≡ 0
+
+-- what a pass knows is true, whatever its stage
+pub record HasSeen (terms : Terms) (log : List Entry) (count : ℕ) (v : View) : Type 0 where
+  pub terms_are : (v.terms ≡ terms) × (v.told_terms ≡ terms)
   pub seen : IsPrefix v.seen log
   pub told : IsPrefix v.told v.seen
-  pub told_terms : v.told_terms ≡ terms
   pub mine : v.mine ≡ entries_by v.number log
   pub own : v.mine ≡ entries_by v.number v.seen
   pub past : (k : ℕ) (j : Joined) → get_elem? v.joined k ≡ some j → IsPast log count v.number j
-  pub few : v.number ≤ count
-  pub first : v.number ≡ 0 → v.splits ≡ count
-  pub others : v.number ≢ 0 → v.splits ≡ 0
-  pub turn : InTurn served drawn v.stage
+  pub numbers : IsNumbered count v.number v.splits
+
+-- what is true for a pass that isn't spent
+pub record Fits (terms : Terms) (lock : LockState) (v : View) : Type 0 where
+  pub knows : HasSeen terms lock.log lock.count (record v { stage = Idle })
+  pub open knows use *
+  pub turn : InTurn lock.served lock.drawn v.stage
 
 -- what is true for two of them
 pub record Apart (v w : View) : Type 0 where
@@ -103,16 +120,14 @@ module _ {B : Type 0} (entries : B → List Entry) (terms_of : B → Terms) wher
     pub free : (i : ℕ) (v : View) → IsLive s.views i v → (t : ℕ) → v.stage ≡ Holds t → ⊥
 
   pub record IsRuled (terms : Terms) (s : State (Option B) View) : Type 0 where
-    pub log : List Entry
-    pub count : ℕ
-    pub drawn : ℕ
-    pub served : ℕ
-    pub words : s.words ≡ drawn % 2 ^ 64 ∷ served % 2 ^ 64 ∷ length log % 2 ^ 64 ∷ []
+    pub lock : LockState
+    pub open lock use *
+    pub words : s.words ≡ words_of lock
     pub few : count < 2 ^ 32
     pub queue : served + total ticket_count s.views ≡ drawn
     pub passes : total pass_count s.views ≤ count + 1
     pub makers : (m : ℕ) → count < m → entries_by m log ≡ []
-    pub each : (i : ℕ) (v : View) → IsLive s.views i v → Fits terms log count served drawn v
+    pub each : (i : ℕ) (v : View) → IsLive s.views i v → Fits terms lock v
     pub apart : (i j : ℕ) (v w : View) → i ≢ j → IsLive s.views i v → IsLive s.views j w → Apart v w
     pub first_pass : HasFirst s.views
     pub where_is : IsHome terms log s ⊎ IsAway log s
