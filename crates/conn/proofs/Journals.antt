@@ -37,15 +37,7 @@ pub record LongerJournal : Type 0 where
 
 -- from a place on
 abbrev pub from_place : LongerJournal → ℕ → LongerJournal
-from_place grown place = record {
-  terms = grown.terms;
-  journal = grown.journal;
-  longer = grown.longer;
-  prefix = grown.prefix;
-  low = place;
-  from = place;
-  below = le_refl place;
-}
+from_place grown place = record grown { low = place; from = place; below = le_refl place }
 
 -- a journal is no shorter than itself, and may be read from an earlier place on
 abbrev pub same_journal : Terms → List Entry → (low from : ℕ) → low ≤ from → LongerJournal

@@ -63,7 +63,7 @@ slot_heard old slot =
 
 -- what was sent of a play, by the play as it was and as it is now
 sent_by : {old new : SessionState} {more : List ℕ} (going : PlayGoing old)
-    → HasPlay (ground_of old going.film) going.setup going.play → HasSentOn going.setup going.play new more
+    → HasPlay (ground_of old going.film).sending going.setup going.play → HasSentOn going.setup going.play new more
     → (stored : Stored) × IsSentBy old stored going.setup going.play new.heard more
 sent_by {old} {new} {more} going its on =
     let setup = going.setup in

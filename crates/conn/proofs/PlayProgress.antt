@@ -18,7 +18,7 @@ use Rattle.conn.specs.InputSteps.{Outcome, Entered, SentPart, Film, Text, Stage,
 use Rattle.conn.specs.InputSteps.{Takes, TakesAll, after_reply, due_parts, film_bytes, slot_parts}
 use Rattle.conn.specs.EventSteps.{Round, Runs, RunsAll, round_outcomes, rounds_outcomes, taking_outcomes}
 use Rattle.conn.specs.EventSteps.{takings_outcomes}
-use Rattle.conn.specs.Films.{HaveNoHalt, GoesOn, HasSent, HasSentOn, IsNoHalt, HasNoHalt, PlaySpan, rounds_film}
+use Rattle.conn.specs.Films.{HaveNoHalt, GoesOn, HasSent, HasSentOn, IsSamePlay, IsNoHalt, HasNoHalt, PlaySpan, rounds_film}
 use Rattle.session.specs.Laws.{AsksNoHalt}
 use Rattle.session.proofs.RefusalEffectLemmas.{hears_plays}
 use Rattle.conn.proofs.FilmBytes.{sent_slot as sent_by, sent_through, slot_film, slot_is, slot_pacing}
@@ -113,6 +113,12 @@ play_state waits setup play slot =
       plain = after_step false slot p;
     })
 
+-- a play is the same whatever its pacing has sent
+same_play : {play : Played} {due passed sent : ℕ}
+    → IsSamePlay (record play { pacer = record play.pacer { due = due; passed = passed; sent = sent } }) play
+same_play =
+    record { run = refl; place = refl; start = refl; plan = refl; before = refl; pieces = refl; paced = refl }
+
 -- a play goes on by a slot that is processed
 pub taken_slot : (old : SessionState) (slot : ℕ) (going : PlayGoing old) → old.heard < slot →
     HasSentOn going.setup going.play (after_play (sent_slot old slot)) (going.film ++ film_bytes (due_parts old slot))
@@ -128,13 +134,7 @@ taken_slot old slot going later =
       now = now;
       state = reply_state goes (sent_due old slot) ∙ ap (λ st. state_after_slot old.waits st slot) state
           ∙ play_state old.waits setup play slot;
-      run = refl;
-      place = refl;
-      start = refl;
-      plan = refl;
-      before = ap (λ (q : PacerState). q.before) through;
-      pieces = ap (λ (q : PacerState). q.pieces) through;
-      paced = ap (λ (q : PacerState). q.plan) through;
+      same = subst (λ q. IsSamePlay (record play { pacer = q }) play) (sym through) same_play;
       sent = subst (λ n. HasSent now n (film ++ film_bytes (due_parts old slot))) (sym heard)
           (subst (λ bs. HasSent now slot (film ++ bs)) (sym bytes) (sent_by going slot later));
     }
@@ -144,18 +144,7 @@ taken_slot old slot going later =
 -- nothing is sent: the play goes on as it was
 pub as_it_was : {session : SessionState} (going : PlayGoing session)
     → HasSentOn going.setup going.play session going.film
-as_it_was going = record {
-  now = going.play;
-  state = going.state;
-  run = refl;
-  place = refl;
-  start = refl;
-  plan = refl;
-  before = refl;
-  pieces = refl;
-  paced = refl;
-  sent = going.sent;
-}
+as_it_was going = record { now = going.play; state = going.state; same = same_play; sent = going.sent }
 
 -- a session around a slot
 abbrev pub standings : SessionState → ℕ → SlotStandings
@@ -215,13 +204,15 @@ goes_on : {setup : Setup} {play : Played} {mid new : SessionState} {film more : 
 goes_on on next = record {
   now = next.now;
   state = next.state;
-  run = next.run ∙ on.run;
-  place = next.place ∙ on.place;
-  start = next.start ∙ on.start;
-  plan = next.plan ∙ on.plan;
-  before = next.before ∙ on.before;
-  pieces = next.pieces ∙ on.pieces;
-  paced = next.paced ∙ on.paced;
+  same = record {
+    run = next.run ∙ on.run;
+    place = next.place ∙ on.place;
+    start = next.start ∙ on.start;
+    plan = next.plan ∙ on.plan;
+    before = next.before ∙ on.before;
+    pieces = next.pieces ∙ on.pieces;
+    paced = next.paced ∙ on.paced;
+  };
   sent = next.sent;
 }
 

@@ -2,7 +2,7 @@
 use Rattle.std.proofs.Common.{◌≡◌, ℕ, ◌+◌, ◌-◌, ◌<◌, [], take, drop, refl, ap, sym, ◌∙◌, subst, arith}
 use Rattle.film_frames.specs.FramedRuns.{run_pieces}
 use Rattle.film_frames.specs.Tracks.{framed_bytes}
-use Rattle.pacer.specs.PacerStates.{first_slots, new_pacer_state}
+use Rattle.pacer.specs.PacerStates.{first_slots}
 use Rattle.admission.specs.declared.entries.Answer.TheVariants.{Admitted}
 use Rattle.admission.specs.Makers.{PlacedEntry}
 use Rattle.session.specs.declared.states.Awaited.TheVariants.{Play}
@@ -13,23 +13,14 @@ use Rattle.session.specs.declared.states.State.{State}
 use Rattle.session.specs.declared.states.State.TheVariants.{Playing, Ready}
 use Rattle.session.specs.ResumedPlays.{IsPacedPlay}
 use Rattle.session.specs.SlotTransitions.{IsPlayIn}
-use Rattle.session.specs.SlotSteps.{admitted_in}
+use Rattle.session.specs.SlotSteps.{admitted_in, play_of}
 use Rattle.session.specs.SessionStates.{SessionState}
 use Rattle.conn.specs.InputSteps.{IsPlayAnswered}
 use Rattle.conn.specs.Films.{HasBegun, HasSent, IsReady}
 
--- a play of which nothing is sent
-abbrev new_play : Prepared → ℕ → ℕ → Played
-new_play prepared place start = record {
-  run = prepared.run;
-  place = place;
-  start = start;
-  plan = prepared.plan;
-  pacer = new_pacer_state (run_pieces prepared.frames) prepared.run.sent prepared.paced start;
-}
-
+-- nothing is sent of a play that begins
 nothing_sent : (prepared : Prepared) (place start heard : ℕ) → heard < start
-    → IsPacedPlay (new_play prepared place start) → HasSent (new_play prepared place start) heard []
+    → IsPacedPlay (play_of prepared place start) → HasSent (play_of prepared place start) heard []
 nothing_sent prepared place start heard later is =
     let none : heard + 1 - start ≡ 0 = omega (arith, later) in record {
       pacing = is.pacing;
@@ -45,9 +36,9 @@ nothing_sent prepared place start heard later is =
     }
 
 admitted_is : (state : State) (setup : Setup) (prepared : Prepared) (place start : ℕ) → IsReady setup state →
-    admitted_in state (Play prepared) place start ≡ Playing setup (new_play prepared place start)
+    admitted_in state (Play prepared) place start ≡ Playing setup (play_of prepared place start)
 admitted_is (Ready own paused) setup prepared place start ready =
-    ap (λ s. Playing s (new_play prepared place start)) ready
+    ap (λ s. Playing s (play_of prepared place start)) ready
 admitted_is _ setup prepared place start ready = absurd ready
 
 -- a play that was prepared can begin
@@ -60,7 +51,7 @@ pub record ReadyPlay (old : SessionState) : Type 0 where
 pub play_begins : {new : SessionState} {start : ℕ} (old : SessionState) (placed : PlacedEntry) (its : ReadyPlay old)
     → IsPlayAnswered old placed (Admitted start) new → HasBegun its.setup its.prepared placed.place start new
 play_begins {new} {start} old placed its answered =
-    let play : Played = new_play prepared placed.place start in
+    let play : Played = play_of prepared placed.place start in
     let state : new.state ≡ Playing setup play =
     ap (λ (s : SessionState). s.state) answered.1 ∙ ap (λ a. admitted_in old.state a placed.place start) awaits
     ∙ admitted_is old.state setup prepared placed.place start ready in
@@ -72,9 +63,7 @@ play_begins {new} {start} old placed its answered =
       place_is = refl;
       start_is = refl;
       plan = refl;
-      paced = is.plan;
-      pieces = refl;
-      before = refl;
+      pacing = record { paced = is.plan; pieces = refl; before = refl };
       sent = nothing_sent prepared placed.place start new.heard (subst (λ h. h < start) (sym heard) answered.0) is;
     }
   where

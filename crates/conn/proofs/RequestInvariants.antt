@@ -5,8 +5,10 @@ use Rattle.film_frames.specs.declared.stored_films.Stored.{Stored}
 use Rattle.film_frames.specs.FramedRuns.{run_pieces}
 use Rattle.film_run.specs.declared.runs.Run.{Run}
 use Rattle.film_run.specs.Laws.{IsSending}
+use Rattle.film_run.specs.Plans.{IsPlayback}
 use Rattle.film_run.specs.Units.{stored_sizes}
 use Rattle.pacer.specs.PacerStates.{PacerState}
+use Rattle.plan_cert.specs.declared.Segment.{Segment}
 use Rattle.session.specs.declared.commands.Ask.{Ask}
 use Rattle.session.specs.declared.commands.Ask.TheVariants.{Reply as AskReply, Play as AskPlay, Halt as AskHalt}
 use Rattle.session.specs.declared.commands.Ask.TheVariants.{Look as AskLook, Offer as AskOffer}
@@ -14,7 +16,6 @@ use Rattle.session_records.specs.declared.notes.PlayNote.{PlayNote}
 use Rattle.film_streams.specs.declared.settings.Settings.{Settings}
 use Rattle.session.specs.declared.states.Awaited.{Awaited}
 use Rattle.session.specs.declared.states.Awaited.TheVariants.{Play}
-use Rattle.film_streams.specs.declared.stream_numbers.Counts.{Counts}
 use Rattle.session.specs.declared.states.AfterHalt.{AfterHalt}
 use Rattle.session.specs.declared.states.AfterHalt.TheVariants.{Done, Paused, Torn}
 use Rattle.session.specs.declared.states.Play.{Play as Played}
@@ -32,6 +33,7 @@ use Rattle.session.specs.Laws.{AsksNoHalt}
 use Rattle.session.specs.Methods.{prepared_of}
 use Rattle.film_streams.specs.SettingRanges.{AreSettings, IsSetup}
 use Rattle.session.specs.SlotSteps.{kept_of, next_of, note_of}
+use Rattle.session.specs.SessionInvariant.{SessionContext, context_of}
 use Rattle.session.specs.SessionStates.{SessionState}
 use Rattle.session.proofs.RequestEffectLemmas.{hears_ground, hears_state, hears_unstopped}
 use Rattle.conn.specs.Films.{HasSent}
@@ -41,47 +43,44 @@ use Rattle.conn.proofs.FilmBytes.{IsHaltedPacing, halted_here}
 abbrev pub AreShown : List Stored → Type 0
 AreShown films = (number : ℕ) → OfFilm films number IsShown
 
--- what is known of a session's state: its films, source, settings and counts, the notes of plays,
--- the latest slot, and the bytes that were sent of its film
-pub record Ground : Type 0 where
-  pub films : List Stored
-  pub source : StreamSource
-  pub settings : Settings
-  pub counts : Counts
-  pub plays : List PlayNote
+-- what a play of a session is judged by: its films, source, settings and counts, the latest slot,
+-- and the bytes that were sent of its film
+pub record PlayGround : Type 0 where
+  pub context : SessionContext
   pub heard : ℕ
   pub film : List ℕ
 
+-- and the notes of its plays
+pub record Ground : Type 0 where
+  pub sending : PlayGround
+  pub open sending use {context, context.{films, source, settings, counts}, heard, film}
+  pub plays : List PlayNote
+
 abbrev pub ground_of : SessionState → List ℕ → Ground
-ground_of s film = record {
-  films = s.films;
-  source = s.source;
-  settings = s.settings;
-  counts = s.counts;
-  plays = s.plays;
-  heard = s.heard;
-  film = film;
-}
+ground_of s film = record { sending = record { context = context_of s; heard = s.heard; film = film }; plays = s.plays }
 
 -- the ground once these bytes were sent by a slot
 abbrev pub ground_by : Ground → ℕ → List ℕ → Ground
-ground_by ground heard film = record ground { heard = heard; film = film }
+ground_by ground heard film = record ground { sending = record ground.sending { heard = heard; film = film } }
+
+-- a run of a film with its plan, and its frames and reports
+pub record IsOfFilm (own : SessionContext) (setup : Setup) (run : Run) (plan : List Segment) (frames : List (List ℕ))
+    : Type 0 where
+  pub stored : Stored
+  pub at : IsFilmAt own.films setup.film stored
+  pub sending : IsSending (stored_sizes stored) (playback_of stored.film own.settings setup) run plan
+  pub pieces : frames ≡ run_pieces (sending_of stored.film own.source setup own.counts run)
 
 -- a play of a film's run, of which these bytes were sent
-pub record HasPlay (ground : Ground) (setup : Setup) (play : Played) : Type 0 where
-  pub stored : Stored
-  pub at : IsFilmAt ground.films setup.film stored
-  pub sending : IsSending (stored_sizes stored) (playback_of stored.film ground.settings setup) play.run play.plan
-  pub pieces : play.pacer.pieces
-      ≡ run_pieces (sending_of stored.film ground.source setup ground.counts play.run)
+pub record HasPlay (ground : PlayGround) (setup : Setup) (play : Played) : Type 0 where
+  pub of : IsOfFilm ground.context setup play.run play.plan play.pacer.pieces
+  pub open of use *
   pub sent : HasSent play ground.heard ground.film
 
 -- a play that is halted by a PAUSE or a TEARDOWN, and what sends its rest
-pub record IsHaltedPlay (ground : Ground) (setup : Setup) (play : Played) (pacer : PacerState) : Type 0 where
-  pub stored : Stored
-  pub at : IsFilmAt ground.films setup.film stored
-  pub sending : IsSending (stored_sizes stored) (playback_of stored.film ground.settings setup) play.run play.plan
-  pub pieces : pacer.pieces ≡ run_pieces (sending_of stored.film ground.source setup ground.counts play.run)
+pub record IsHaltedPlay (ground : PlayGround) (setup : Setup) (play : Played) (pacer : PacerState) : Type 0 where
+  pub of : IsOfFilm ground.context setup play.run play.plan pacer.pieces
+  pub open of use *
   pub plan : pacer.plan ≡ play.plan
   pub before : pacer.before ≡ play.run.sent
   pub start : pacer.start ≡ play.start
@@ -92,12 +91,12 @@ pub record HasStopped (ground : Ground) (setup : Setup) (stop : Stop) : Type 0 w
   pub play : Played
   pub earlier : List PlayNote
   pub noted : ground.plays ≡ earlier ++ note_of setup play stop.pacer.keep ∷ []
-  pub rest : IsHaltedPlay ground setup play stop.pacer
+  pub rest : IsHaltedPlay ground.sending setup play stop.pacer
 
 abbrev pub IsStateOf : Ground → State → Type 0
 IsStateOf ground Init = Unit {0}
 IsStateOf ground (Ready setup paused) = IsSetup (length ground.films) setup
-IsStateOf ground (Playing setup play) = IsSetup (length ground.films) setup × HasPlay ground setup play
+IsStateOf ground (Playing setup play) = IsSetup (length ground.films) setup × HasPlay ground.sending setup play
 IsStateOf ground (Stopping setup stop) = IsSetup (length ground.films) setup × HasStopped ground setup stop
 
 -- a session in a course, with what was sent of its play
@@ -124,7 +123,7 @@ pub record HasPrepared (films : List Stored) (source : StreamSource) (settings :
 -- a PAUSE or a TEARDOWN asks for a halt of a play
 pub record IsHaltAwaited (ground : Ground) (awaited : Awaited) (setup : Setup) (play : Played) : Type 0 where
   pub keep_is : kept_of awaited play.pacer.due ≡ play.pacer.keep
-  pub rest : IsHaltedPlay ground setup play play.pacer
+  pub rest : IsHaltedPlay ground.sending setup play play.pacer
 
 -- by what the halt leads to: a play that is done leaves nothing
 abbrev pub IsHaltedTo : AfterHalt → Type 0 → Type 0
@@ -183,6 +182,19 @@ carried : {old new : SessionState} {film : List ℕ} → IsWell old film → IsK
 carried {old} {film = film} well kept state =
     kept_well well kept (subst (IsStateOf (ground_of old film)) (sym state) well.state)
 
+-- the client of a film that can be shown is in its ranges, by those of the settings and of a SETUP
+playback_well : {stored : Stored} {settings : Settings} {films : ℕ} {setup : Setup} → IsShown stored
+    → AreSettings settings → IsSetup films setup → IsPlayback (playback_of stored.film settings setup)
+playback_well shown settings setup = record {
+  some_picture_units = shown.some_time;
+  picture_units_fit = shown.time_fits;
+  some_slot_units = omega (arith, settings.long_slots);
+  slot_units_fit = settings.short_slots;
+  some_buffer = setup.some_buffer;
+  buffer_fits = setup.most_buffer;
+  delay_fits = setup.most_delay;
+}
+
 -- a PLAY in Ready
 prepared_well : {old new : SessionState} {film : List ℕ} → IsWell old film → IsSameContext old new
     → (new.state ≡ old.state) × IsPlayAsked old new → HasPrepared new.films new.source new.settings new.state new.awaited
@@ -203,15 +215,7 @@ prepared_well {old} {new} {film} well same (state, is) =
       sending = record {
         can_play = record {
           sizes_are = shown.sizes;
-          playback_is = record {
-            some_picture_units = shown.some_time;
-            picture_units_fit = shown.time_fits;
-            some_slot_units = omega (arith, well.settings.long_slots);
-            slot_units_fit = well.settings.short_slots;
-            some_buffer = values.some_buffer;
-            buffer_fits = values.most_buffer;
-            delay_fits = values.most_delay;
-          };
+          playback_is = playback_well shown well.settings values;
           run_is = planned.goes_on.run_is;
           fits = planned.goes_on.fits;
         };
@@ -234,11 +238,8 @@ halting_well {old} {new} {film} well same is =
     let was = subst (IsStateOf (ground_of old film)) is.was well.state in
     let its = was.1 in
     let play : Played = record is.play { pacer = record is.play.pacer { keep = is.keep } } in
-    let rest : IsHaltedPlay (ground_of old film) is.setup play play.pacer = record {
-      stored = its.stored;
-      at = its.at;
-      sending = its.sending;
-      pieces = its.pieces;
+    let rest : IsHaltedPlay (ground_of old film).sending is.setup play play.pacer = record {
+      of = its.of;
       plan = its.sent.plan;
       before = its.sent.before;
       start = its.sent.start;

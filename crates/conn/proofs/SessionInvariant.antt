@@ -38,7 +38,7 @@ use Rattle.conn.specs.EventSteps.{Round, Runs, RunsAll}
 use Rattle.conn.specs.Films.{HasSentOn, IsReady}
 use Rattle.conn.specs.Plays.{film_in, film_since, film_taken}
 use Rattle.conn.proofs.PlayStart.{play_begins}
-use Rattle.conn.proofs.RequestInvariants.{AreShown, Ground, HasPlay, HasPrepared, HasStopped, IsAskedWell, IsHaltAwaited}
+use Rattle.conn.proofs.RequestInvariants.{AreShown, Ground, PlayGround, HasPlay, HasPrepared, HasStopped, IsAskedWell, IsHaltAwaited}
 use Rattle.conn.proofs.RequestInvariants.{IsHaltedTo, IsHalting, IsHaltingIn, IsStateOf, IsWell, ground_of, ground_by}
 use Rattle.conn.proofs.RequestInvariants.{hears_well}
 use Rattle.conn.proofs.PlayProgress.{slot_any, slot_play}
@@ -49,6 +49,10 @@ use Rattle.conn.proofs.StationAnswers.{AnswersAs, ComesAs, FinishesAs, answers_a
 use Rattle.conn.proofs.StationAnswers.{PlayOverflowed, PlayFull, PlayHalted, LookMade, NothingLeft, DoneHalted}
 use Rattle.conn.proofs.StationAnswers.{BytesCame, SlotCame}
 
+-- the ground with other counts of what was sent before
+abbrev ground_with : Counts → Ground → PlayGround
+ground_with counts ground = record ground.sending { context = record ground.context { counts = counts } }
+
 -- a halt is noted, and leaves the rest of its play
 noted_stop : {setup : Setup} {ground : Ground} {awaited : Awaited} (play : Played) (paused : Option Run) →
     IsHaltAwaited ground awaited setup play →
@@ -56,28 +60,17 @@ noted_stop : {setup : Setup} {ground : Ground} {awaited : Awaited} (play : Playe
       plays = ground.plays ++ note_of setup play (kept_of awaited play.pacer.due) ∷ [];
     }) setup
     (record { paused = paused; start = play.start; pacer = play.pacer })
-noted_stop {setup} {ground} play paused halted =
-    let rest = halted.rest in
-    record {
-      play = play;
-      earlier = ground.plays;
-      noted = ap (λ n. ground.plays ++ note_of setup play n ∷ []) halted.keep_is;
-      rest = record {
-        stored = rest.stored;
-        at = rest.at;
-        sending = rest.sending;
-        pieces = rest.pieces;
-        plan = rest.plan;
-        before = rest.before;
-        start = rest.start;
-        halted = rest.halted;
-      };
-    }
+noted_stop {setup} {ground} play paused halted = record {
+  play = play;
+  earlier = ground.plays;
+  noted = ap (λ n. ground.plays ++ note_of setup play n ∷ []) halted.keep_is;
+  rest = halted.rest;
+}
 
 halted_state : (old : SessionState) (film : List ℕ) (state : State) → IsHaltingIn (ground_of old film) old.awaited state
     →
     IsStateOf (record (ground_of old film) {
-      counts = halted_counts old state;
+      sending = ground_with (halted_counts old state) (ground_of old film);
       plays = old.plays ++ halted_notes state old.awaited;
     }) (halted_in state old.awaited)
 halted_state old film Init is = tt
@@ -86,8 +79,8 @@ halted_state old film (Playing setup play) is = by-next (next_of old.awaited) is
   where
     by-next : (next : AfterHalt) → IsHaltedTo next (IsHaltAwaited (ground_of old film) old.awaited setup play) →
         IsStateOf (record (ground_of old film) {
-          counts = counts_next old.counts (counts_done old.source old.counts setup play.run
-              (kept_of old.awaited play.pacer.due) (slice_get old.films setup.film)) next;
+          sending = ground_with (counts_next old.counts (counts_done old.source old.counts setup play.run
+              (kept_of old.awaited play.pacer.due) (slice_get old.films setup.film)) next) (ground_of old film);
           plays = old.plays ++ note_of setup play (kept_of old.awaited play.pacer.due) ∷ [];
         }) (state_once_halted setup play next)
     by-next Done halted = is.0
@@ -139,19 +132,21 @@ admitted_well {s} placed (well, asked) answered =
       awaits = asked.awaited_is;
     }) answered in
     let counts = ap (λ a. counts_of a s.counts) asked.awaited_is in
-    let ground : Ground = record (ground_of s []) { counts = counts_of s.awaited s.counts } in
+    let ground : Ground = record (ground_of s []) { sending = ground_with (counts_of s.awaited s.counts) (ground_of s []) } in
     let client = playback_of asked.stored.film s.settings asked.setup in
-    let play : HasPlay ground asked.setup begun.play = record {
-      stored = asked.stored;
-      at = asked.at;
-      sending = subst (λ (r : Run). IsSending (stored_sizes asked.stored) client r begun.play.plan) (sym begun.run)
-          (subst (λ (p : List Segment). IsSending (stored_sizes asked.stored) client asked.prepared.run p)
-          (sym begun.plan) asked.sending);
-      pieces = begun.pieces ∙ ap run_pieces asked.frames
-          ∙ ap (λ (r : Run). run_pieces (sending_of asked.stored.film s.source asked.setup asked.prepared.counts r))
-          (sym begun.run)
-          ∙ ap (λ (c : Counts). run_pieces (sending_of asked.stored.film s.source asked.setup c begun.play.run))
-          (sym counts);
+    let play : HasPlay ground.sending asked.setup begun.play = record {
+      of = record {
+        stored = asked.stored;
+        at = asked.at;
+        sending = subst (λ (r : Run). IsSending (stored_sizes asked.stored) client r begun.play.plan) (sym begun.run)
+            (subst (λ (p : List Segment). IsSending (stored_sizes asked.stored) client asked.prepared.run p)
+            (sym begun.plan) asked.sending);
+        pieces = begun.pacing.pieces ∙ ap run_pieces asked.frames
+            ∙ ap (λ (r : Run). run_pieces (sending_of asked.stored.film s.source asked.setup asked.prepared.counts r))
+            (sym begun.run)
+            ∙ ap (λ (c : Counts). run_pieces (sending_of asked.stored.film s.source asked.setup c begun.play.run))
+            (sym counts);
+      };
       sent = begun.sent;
     } in
     record {
@@ -282,18 +277,20 @@ slot_well {more = more} old slot well state =
 
 -- a play goes on by a slot
 play_on : {old new : SessionState} {more : List ℕ} (going : PlayGoing old)
-    → HasPlay (ground_of old going.film) going.setup going.play → (on : HasSentOn going.setup going.play new more)
-    → HasPlay (ground_by (ground_of old going.film) new.heard more) going.setup on.now
+    → HasPlay (ground_of old going.film).sending going.setup going.play → (on : HasSentOn going.setup going.play new more)
+    → HasPlay (ground_by (ground_of old going.film) new.heard more).sending going.setup on.now
 play_on {old} going its on =
     let stored = its.stored in
     let client = playback_of stored.film old.settings going.setup in
     record {
-      stored = stored;
-      at = its.at;
-      sending = subst (λ (r : Run). IsSending (stored_sizes stored) client r on.now.plan) (sym on.run)
-          (subst (λ (p : List Segment). IsSending (stored_sizes stored) client going.play.run p) (sym on.plan) its.sending);
-      pieces = on.pieces ∙ its.pieces
-          ∙ ap (λ (r : Run). run_pieces (sending_of stored.film old.source going.setup old.counts r)) (sym on.run);
+      of = record {
+        stored = stored;
+        at = its.at;
+        sending = subst (λ (r : Run). IsSending (stored_sizes stored) client r on.now.plan) (sym on.run)
+            (subst (λ (p : List Segment). IsSending (stored_sizes stored) client going.play.run p) (sym on.plan) its.sending);
+        pieces = on.pieces ∙ its.pieces
+            ∙ ap (λ (r : Run). run_pieces (sending_of stored.film old.source going.setup old.counts r)) (sym on.run);
+      };
       sent = on.sent;
     }
 

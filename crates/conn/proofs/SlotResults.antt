@@ -1,19 +1,14 @@
 -- What a slot that is processed results in, and one in which a send failed.
-use Rattle.std.proofs.Common.{◌≡◌, ℕ, refl, ap, ◌∙◌, if◌then◌else◌, take}
+use Rattle.std.proofs.Common.{◌≡◌, ℕ, refl, ap, take}
 use Rattle.session.specs.SlotSteps.{due_bytes, HasSlotFailed}
-use Rattle.session.specs.SessionStates.{AwaitsNoAnswer}
-use Rattle.session.specs.SessionStates.{last_heard_slot}
+use Rattle.session.specs.SessionStates.{AwaitsNoAnswer, SessionState}
 use Rattle.conn.specs.Observations.{Observed, HasFailedSend}
 
 -- what a slot leaves in which a send failed
 pub record FailedSlot (a b : Observed) (slot : ℕ) : Type 0 where
   pub failed : HasSlotFailed a.stage.session slot a.told b.told b.stage.session
   pub input : b.stage.input ≡ a.stage.input
-  pub heard : b.stage.session.heard ≡ last_heard_slot a.stage.session.heard slot
   pub rest : AwaitsNoAnswer b.stage.session
-  pub receipts : b.stage.session.receipts ≡ a.stage.session.receipts
-  pub plays : b.stage.session.plays ≡ a.stage.session.plays
-  pub offers : b.stage.session.offers ≡ a.stage.session.offers
   pub seat : b.seat ≡ a.seat
 
 -- a send failed in a slot
@@ -25,18 +20,18 @@ broken_slot {a} {b} {slot} slot_failed = record {
     sending = failed.sending;
     front_is = (failed.front.0, (failed.front.1.0, refl));
     input = input;
-    heard = heard ∙ ap (λ b. if b then slot else a.stage.session.heard) failed.taken;
+    heard = ap (λ (s : SessionState). s.heard) failed.rest;
     rest = rest;
     booking = failed.booking;
     carried = failed.carried;
     late = failed.late;
-    receipts = receipts;
-    plays = plays;
-    offers = offers;
+    receipts = ap (λ (s : SessionState). s.receipts) failed.rest;
+    plays = ap (λ (s : SessionState). s.plays) failed.rest;
+    offers = ap (λ (s : SessionState). s.offers) failed.rest;
     session_is = failed.rest;
   };
   sent = failed.front.1.1;
   noted = seat;
 }
   where
-    open slot_failed use {failed, input, heard, rest, receipts, plays, offers, seat}
+    open slot_failed use {failed, input, rest, seat}

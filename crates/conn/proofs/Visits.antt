@@ -29,7 +29,7 @@ use Rattle.conn.specs.Plays.{ending_rounds}
 use Rattle.conn.specs.ReservationInvariant.{Closed, open_play_from}
 use Rattle.conn.specs.Observations.{AreNoted}
 use Rattle.conn.specs.declared.reports.ConnReport.{ConnReport}
-use Rattle.conn.proofs.Journals.{LongerJournal, agree_longer, terms_same}
+use Rattle.conn.proofs.Journals.{LongerJournal, same_journal, agree_longer, terms_same}
 use Rattle.conn.proofs.CourseSteps.{noted_on, seen_agrees}
 
 -- what was served agrees with the seat's journal
@@ -130,15 +130,7 @@ refusals_longer grown made (Text text ∷ parts) justified = (
 pub agrees_longer : {visit : Visit} {terms : Terms} {journal longer : List Entry} → Agrees visit terms journal →
     IsPrefix journal longer → IsLegal terms.steps longer → Agrees visit terms longer
 agrees_longer {terms = terms} {journal} {longer} agrees prefix legal =
-    let grown : LongerJournal = record {
-      terms = terms;
-      journal = journal;
-      longer = longer;
-      prefix = prefix;
-      low = 0;
-      from = 0;
-      below = omega arith;
-    } in
+    let grown : LongerJournal = record (same_journal terms journal 0 0 (omega arith)) { longer = longer; prefix = prefix } in
     let doings = agrees.doings in
     record {
       legal = legal;

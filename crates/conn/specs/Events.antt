@@ -72,15 +72,8 @@ IsTaken (End end) waiting c = IsProcessed (Some end) c
 
 -- the link failed
 abbrev pub is_fault : Option ConnEnd → Bool
-is_fault None = false
 is_fault (Some LinkFault) = true
-is_fault (Some Ended) = false
-is_fault (Some TornDown) = false
-is_fault (Some TooMuchInput) = false
-is_fault (Some HeadTooLong) = false
-is_fault (Some BodyTooLong) = false
-is_fault (Some TurnsSpent) = false
-is_fault (Some NoMemory) = false
+is_fault _ = false
 
 abbrev pub end_in : InputProgress → Option ConnEnd
 end_in Gone = None

@@ -78,6 +78,22 @@ pub record IsBetween (sizes : List ℕ) (playback : Playback) (run : Run) (slot 
   pub above : low_at (rest_sizes sizes run) (timing_of playback run) slot ≤ sent
   pub below : sent ≤ up_at (rest_sizes sizes run) (timing_of playback run) slot
 
+-- two plays are the same but for what was sent of them
+pub record IsSamePlay (now play : Played) : Type 0 where
+  pub run : now.run ≡ play.run
+  pub place : now.place ≡ play.place
+  pub start : now.start ≡ play.start
+  pub plan : now.plan ≡ play.plan
+  pub before : now.pacer.before ≡ play.pacer.before
+  pub pieces : now.pacer.pieces ≡ play.pacer.pieces
+  pub paced : now.pacer.plan ≡ play.pacer.plan
+
+-- a pacing sends what was prepared
+pub record IsPacingOf (prepared : Prepared) (pacer : PacerState) : Type 0 where
+  pub paced : pacer.plan ≡ prepared.plan
+  pub pieces : pacer.pieces ≡ run_pieces prepared.frames
+  pub before : pacer.before ≡ prepared.run.sent
+
 -- a play that was admitted begins in a slot: nothing is sent of it
 pub record HasBegun (setup : Setup) (prepared : Prepared) (place start : ℕ) (session : SessionState)
     : Type 0 where
@@ -87,9 +103,7 @@ pub record HasBegun (setup : Setup) (prepared : Prepared) (place start : ℕ) (s
   pub place_is : play.place ≡ place
   pub start_is : play.start ≡ start
   pub plan : play.plan ≡ prepared.plan
-  pub paced : play.pacer.plan ≡ prepared.plan
-  pub pieces : play.pacer.pieces ≡ run_pieces prepared.frames
-  pub before : play.pacer.before ≡ prepared.run.sent
+  pub pacing : IsPacingOf prepared play.pacer
   pub sent : HasSent play session.heard []
 
 -- the parts of a round, and of rounds
@@ -118,13 +132,8 @@ pub record HasSentOn (setup : Setup) (play : Played) (session : SessionState) (f
     : Type 0 where
   pub now : Played
   pub state : session.state ≡ Playing setup now
-  pub run : now.run ≡ play.run
-  pub place : now.place ≡ play.place
-  pub start : now.start ≡ play.start
-  pub plan : now.plan ≡ play.plan
-  pub before : now.pacer.before ≡ play.pacer.before
-  pub pieces : now.pacer.pieces ≡ play.pacer.pieces
-  pub paced : now.pacer.plan ≡ play.pacer.plan
+  pub same : IsSamePlay now play
+  pub open same use *
   pub sent : HasSent now session.heard film
 
 -- a part of a connection's course with a play in it: where the connection stands at its beginning,

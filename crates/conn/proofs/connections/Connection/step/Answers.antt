@@ -13,11 +13,7 @@ returns-in_err-slot-clause-broken g c =
     (broken_slot (record {
       failed = c.in_err-slot.ensures.failed;
       input = refl;
-      heard = c.slot.ensures.heard;
       rest = c.in_err-slot.ensures.lost;
-      receipts = c.slot.ensures.receipts;
-      plays = c.slot.ensures.plays;
-      offers = c.slot.ensures.offers;
       seat = refl;
     }))
 
