@@ -92,9 +92,9 @@ play_halted {inside} halt done =
       state = after.kept;
       awaited = after.going;
       stop = after.stop;
-      rooms = (omega (arith, kept.receipt_room), omega arith, omega arith);
+      rooms = (omega (arith, kept.rooms.0), omega arith, omega arith);
       torn = λ tears waits. torn ∙ halted_torn next kept.torn (sym tearing ∙ tears) waits;
-      slots = (kept.late, kept.heard);
+      slots = kept.slots;
       front = λ asks. cc;
     })
   where

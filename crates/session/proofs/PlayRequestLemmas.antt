@@ -17,7 +17,8 @@ use Rattle.session.specs.SessionInvariant.{session_context_of, awaited_plays, aw
 use Rattle.session.specs.SessionInvariant.{session_state_of}
 use Rattle.session.specs.ResumedPlays.{IsPrepared}
 use Rattle.session.specs.SlotSteps.{next_of, play_of}
-use Rattle.session.specs.SessionStates.{CanHandleRequest, IsReadyIn}
+use Rattle.session.specs.SessionStates.{CanHandleRequest, IsReadyIn, SessionState}
+use Rattle.session.specs.RequestedPlans.{IsPausedIn}
 use Rattle.session_records.specs.RecordLists.{SessionRecords}
 use Rattle.session.specs.declared.plans.Planned.{Planned}
 use Rattle.session.specs.declared.states.Awaited.{Awaited}
@@ -32,6 +33,14 @@ use Rattle.session.specs.declared.sessions.Session.TheInside.{Inside}
 use Rattle.session.proofs.StepInvariantLemmas.{nothing_of, step_kept}
 use Rattle.session.proofs.HaltedRunLemmas.{keeps_within}
 use Rattle.session.proofs.ResumedPlayLemmas.{of_film}
+
+-- in Ready a paused run can be sent on
+pub paused_in : {inside : Inside} {view : SessionState} {setup : Setup} {paused : Option Run}
+    → IsSessionInvariant inside → session_state_of inside ≡ view → inside.state ≡ Ready setup paused
+    → IsPausedIn view.films view.source view.counts setup paused
+paused_in {inside} {setup = setup} {paused} kept is ready =
+    subst (λ (old : SessionState). IsPausedIn old.films old.source old.counts setup paused) is
+    (subst (λ (s : State). IsStateInvariant (session_context_of inside) s) ready kept.state).1
 
 ready_in : {setup : Setup} {prepared : Prepared} (ground : SessionContext) (state : State)
     → IsReadyIn state setup → IsPrepared prepared
@@ -89,7 +98,7 @@ play_asked {inside} ask =
       stop = kept.stop;
       rooms = (omega arith, omega arith, omega arith);
       torn = kept.torn;
-      slots = (kept.late, kept.heard);
+      slots = kept.slots;
       front = λ asks. ask.short;
     })
   where
@@ -138,9 +147,9 @@ play_admitted {inside} admission =
       );
       awaited = λ linked. record { even = refl; whole = ap total_bytes asked.0.paced; going = refl };
       stop = tt;
-      rooms = (omega (arith, kept.receipt_room), omega (arith, kept.play_room), omega arith);
+      rooms = (omega (arith, kept.rooms.0), omega (arith, kept.rooms.1), omega arith);
       torn = λ tears waits. cc;
-      slots = (kept.late, kept.heard);
+      slots = kept.slots;
       front = λ asks. cc;
     })
   where
@@ -213,9 +222,9 @@ halt_asked {inside} hand halt =
       state = halting_kept hand pacing pacer_is;
       awaited = (keeps_within play keep (play_going hand) most, left);
       stop = tt;
-      rooms = (omega (arith, kept.receipt_room), omega (arith, kept.play_room), omega arith);
+      rooms = (omega (arith, kept.rooms.0), omega (arith, kept.rooms.1), omega arith);
       torn = kept.torn;
-      slots = (kept.late, kept.heard);
+      slots = kept.slots;
       front = λ asks. cc;
     })
   where

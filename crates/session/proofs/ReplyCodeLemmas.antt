@@ -145,8 +145,7 @@ answer_text h (SeeksOffer offer planned is asks) = subst (λ a. RefusesNone a h.
 
 pub hears_text : (old new : SessionState) (message : List ℕ) (ask : Ask) → Hears old message ask new → RefusesNone ask
     new
-hears_text old new message ask hears =
-    answer_text (heard_by hears) (answer_to (heard_by hears))
+hears_text old new message ask hears = let h = heard_by hears in answer_text h (answer_to h)
 
 -- memory ran out for a message, as it may
 abbrev RunsOut : HeardMessage → Type 0
@@ -228,5 +227,4 @@ answer_never h (SeeksOffer offer planned is asks) = subst (λ a. NeverLacks a h.
 
 pub hears_never : (old new : SessionState) (message : List ℕ) (ask : Ask) → Hears old message ask new → NeverLacks ask
     new
-hears_never old new message ask hears =
-    answer_never (heard_by hears) (answer_to (heard_by hears))
+hears_never old new message ask hears = let h = heard_by hears in answer_never h (answer_to h)

@@ -50,21 +50,25 @@ pub record TakenTask (h : HeardMessage) (task : Task) : Type 0 where
   pub is_request : IsReadAs h.message request
   pub judged : IsTaken h.old.films h.old.id h.old.state request task
 
+-- a session in Ready
+pub record InReady (old : SessionState) : Type 0 where
+  pub setup : Setup
+  pub paused : Option Run
+  pub ready : old.state ≡ Ready setup paused
+
 -- a PLAY that is received in Ready
 pub record ReadyPlay (h : HeardMessage) : Type 0 where
   pub asked : Asked
   pub taken : TakenTask h (ToPlay asked)
-  pub setup : Setup
-  pub paused : Option Run
-  pub ready : h.old.state ≡ Ready setup paused
+  pub film : InReady h.old
+  pub open film use *
 
 -- a request for an offer, with the wait that it names, that is received in Ready
 pub record ReadyOffer (h : HeardMessage) : Type 0 where
   pub taken : TakenTask h ToGetParameter
   pub body : IsWord (codes "x-Offer") taken.request.body.now
-  pub setup : Setup
-  pub paused : Option Run
-  pub ready : h.old.state ≡ Ready setup paused
+  pub film : InReady h.old
+  pub open film use *
   pub wait : ℕ
   pub has_wait : HasWait taken.request.head.now wait
 
@@ -169,8 +173,8 @@ plays : (h : HeardMessage) (asked : Asked) (taken : TakenTask h (ToPlay asked)) 
     → Plays state h.old taken.request asked.authority.now h.ask h.new → Answer h
 plays h asked taken Init same is = absurd is
 plays h asked taken (Ready setup paused) same is =
-    starts_play h (record { asked = asked; taken = taken; setup = setup; paused = paused; ready = same }) is.planned
-    is.is_planned is.asks
+    let film : InReady h.old = record { setup = setup; paused = paused; ready = same } in
+    starts_play h (record { asked = asked; taken = taken; film = film }) is.planned is.is_planned is.asks
 plays h asked taken _ same is = Replies (ToConfirmed asked taken) is
 
 pauses : (h : HeardMessage) (taken : TakenTask h ToPause) (state : State) → h.old.state ≡ state
@@ -202,15 +206,10 @@ gets_offer h taken body Init same is =
 gets_offer h taken body (Ready setup paused) same (inl short) =
     Replies (ToDeclined taken.request Parameter taken.is_request (NoParameter refl)) short.refused
 gets_offer h taken body (Ready setup paused) same (inr offers) =
-    seeks_offer h (record {
-      taken = taken;
-      body = body;
-      setup = setup;
-      paused = paused;
-      ready = same;
-      wait = offers.wait;
-      has_wait = offers.has_wait;
-    }) offers.offers.planned offers.offers.is_planned offers.offers.asks
+    let film : InReady h.old = record { setup = setup; paused = paused; ready = same } in
+    seeks_offer h
+    (record { taken = taken; body = body; film = film; wait = offers.wait; has_wait = offers.has_wait })
+    offers.offers.planned offers.offers.is_planned offers.offers.asks
 gets_offer h taken body _ same is =
     Replies (ToDeclined taken.request NotNow taken.is_request (NotInPlaying refl)) is
 

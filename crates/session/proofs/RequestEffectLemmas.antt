@@ -1,8 +1,7 @@
 -- What each request changes of a session.
-use Rattle.std.proofs.Common.{◌≡◌, ℕ, List, [], Option, Some, codes, Result, Ok, Err, refl, sym, ap, subst, inl, inr}
+use Rattle.std.proofs.Common.{◌≡◌, ℕ, List, [], Some, codes, Result, Ok, Err, refl, sym, ap, subst, inl, inr}
 use Rattle.rtsp_text.specs.Fields.{header_value}
 use Rattle.rtsp_text.specs.declared.requests.Request.{Request}
-use Rattle.film_run.specs.declared.runs.Run.{Run}
 use Rattle.session.specs.declared.commands.Ask.{Ask}
 use Rattle.session.specs.declared.commands.Ask.TheVariants.{Play as AskPlay}
 use Rattle.session.specs.declared.plans.Planned.{Planned}
@@ -10,9 +9,7 @@ use Rattle.rtsp_methods.specs.declared.refusals.Refusal.{Refusal}
 use Rattle.session.specs.declared.refusals.Task.{Task}
 use Rattle.session.specs.declared.refusals.Task.TheVariants.{Play as ToPlay}
 use Rattle.session.specs.declared.states.AfterHalt.{AfterHalt}
-use Rattle.film_streams.specs.declared.setups.Setup.{Setup}
 use Rattle.session.specs.declared.states.State.{State}
-use Rattle.session.specs.declared.states.State.TheVariants.{Ready}
 use Rattle.session.specs.RequestEffects.{AsksOrLacks, AwaitsNoStop, CanBePlayed, ChangesState, IsGoodPlay}
 use Rattle.session.specs.RequestEffects.{IsPlayAskedFor, IsSameContext}
 use Rattle.session.specs.RequestSteps.{Hears}
@@ -24,7 +21,7 @@ use Rattle.session.specs.SessionStates.{SessionState}
 use Rattle.session.proofs.InitialStateLemmas.{HeardMessage, PlayInHand, heard_by}
 use Rattle.session.proofs.ResumedPlayLemmas.{of_film}
 use Rattle.session.proofs.RequestCaseAnalysis.{Answer, Replies, SetsUp, StartsPlay, HaltsPlay, StopsPlay, EndsSession}
-use Rattle.session.proofs.RequestCaseAnalysis.{ReadyPlay, TakenTask, TakesLook, SeeksOffer, answer_to, is_memory}
+use Rattle.session.proofs.RequestCaseAnalysis.{InReady, ReadyPlay, TakenTask, TakesLook, SeeksOffer, answer_to, is_memory}
 use Rattle.session.proofs.RequestCaseAnalysis.{settled_ranges}
 
 abbrev pub Changes : Ask → SessionState → SessionState → Type 0
@@ -65,7 +62,7 @@ halt_changes : {sequence : ℕ} {next : AfterHalt} (h : HeardMessage) (hand : Pl
     → AsksHalt h.old sequence hand.setup hand.play next h.ask h.new → Changes h.ask h.old h.new
 halt_changes {next} h hand is =
     changed h (is.command, is.state)
-    (record { films = refl; settings = refl; source = refl; counts = refl; heard = refl; plays = refl })
+    (record { films = refl; settings = refl; numbers = record { source = refl; counts = refl }; heard = refl; plays = refl })
     (record {
       setup = hand.setup;
       play = hand.play;
@@ -80,29 +77,29 @@ halt_changes {next} h hand is =
 answer_changes : (h : HeardMessage) → Answer h → Changes h.ask h.old h.new
 answer_changes h (Replies reply is) =
     changed h is
-    (record { films = refl; settings = refl; source = refl; counts = refl; heard = refl; plays = refl })
+    (record { films = refl; settings = refl; numbers = record { source = refl; counts = refl }; heard = refl; plays = refl })
     (inl (state_of is.1))
 answer_changes h (SetsUp film taken setup asks is) =
     changed h is
-    (record { films = refl; settings = refl; source = refl; counts = refl; heard = refl; plays = refl })
+    (record { films = refl; settings = refl; numbers = record { source = refl; counts = refl }; heard = refl; plays = refl })
     (inr (record { setup = setup; state = state_of is.1; ranges = settled_ranges taken asks }))
 answer_changes h (StartsPlay play planned asks planned_is) =
     changed h (asks.command, asks.state)
-    (record { films = refl; settings = refl; source = refl; counts = refl; heard = refl; plays = refl })
+    (record { films = refl; settings = refl; numbers = record { source = refl; counts = refl }; heard = refl; plays = refl })
     (state_of asks.state, play_asked h play asks planned_is)
 answer_changes h (HaltsPlay taken hand is) = halt_changes h hand is.asks
 answer_changes h (StopsPlay taken hand is) = halt_changes h hand is
 answer_changes h (EndsSession taken is) =
     changed h is
-    (record { films = refl; settings = refl; source = refl; counts = refl; heard = refl; plays = refl })
+    (record { films = refl; settings = refl; numbers = record { source = refl; counts = refl }; heard = refl; plays = refl })
     (inl (state_of is.1))
 answer_changes h (TakesLook taken look) =
     changed h (look.command, look.state)
-    (record { films = refl; settings = refl; source = refl; counts = refl; heard = refl; plays = refl })
+    (record { films = refl; settings = refl; numbers = record { source = refl; counts = refl }; heard = refl; plays = refl })
     (state_of look.state)
 answer_changes h (SeeksOffer offer planned is asks) =
     changed h (asks.command, asks.state)
-    (record { films = refl; settings = refl; source = refl; counts = refl; heard = refl; plays = refl })
+    (record { films = refl; settings = refl; numbers = record { source = refl; counts = refl }; heard = refl; plays = refl })
     (state_of asks.state)
 
 pub hears_ground : (old new : SessionState) (message : List ℕ) (ask : Ask) → Hears old message ask new
@@ -155,22 +152,15 @@ good_starts h play good (Err refusal) is refused =
 
 -- a PLAY in Ready to which no refusal applies
 record GoodPlay (old : SessionState) (request : Request) : Type 0 where
-  setup : Setup
-  paused : Option Run
-  ready : old.state ≡ Ready setup paused
+  film : InReady old
+  open film use *
   good : IsGoodPlay old setup paused request
 
 good_does : (h : HeardMessage) (task : Task) (taken : TakenTask h task) → GoodPlay h.old taken.request
     → Takes h.old taken.request (Ok task) h.ask h.new → AsksOrLacks h.old h.ask h.new
 good_does h (ToPlay asked) taken play takes =
     let is = subst (λ (s : State). Plays s h.old taken.request asked.authority.now h.ask h.new) play.ready takes in
-    good_starts h (record {
-      asked = asked;
-      taken = taken;
-      setup = play.setup;
-      paused = play.paused;
-      ready = play.ready;
-    }) play.good is.planned is.is_planned is.asks
+    good_starts h (record { asked = asked; taken = taken; film = play.film }) play.good is.planned is.is_planned is.asks
 good_does h _ taken play takes =
     absurd (let no : ⊥ = cc (taken.judged.talk.spoken.named, play.good.method) in no)
 
@@ -186,9 +176,7 @@ hears_good old new message ask (inr whole) can =
     → AsksOrLacks old ask new) [
       | Ok task ↦ λ judged takes.
           good_does h task (record { request = request; is_request = whole.is_request; judged = judged }) (record {
-            setup = can.setup;
-            paused = can.paused;
-            ready = can.ready;
+            film = record { setup = can.setup; paused = can.paused; ready = can.ready };
             good = can.good request whole.is_request;
           }) takes
       | Err refusal ↦ λ judged takes. absurd ((can.good request whole.is_request).taken refusal judged)

@@ -1,5 +1,5 @@
 -- What a step leaves of how a session is kept.
-use Rattle.std.proofs.Common.{◌≡◌, ℕ, ◌+◌, ◌≤◌, Bool, true, false, List, Option, length, refl, sym, ap, subst, ◌∙◌}
+use Rattle.std.proofs.Common.{◌≡◌, ℕ, ◌≤◌, Bool, true, false, List, Option, refl, sym, ap, subst, ◌∙◌}
 use Rattle.std.proofs.Common.{arith}
 use Rattle.vod_base.specs.declared.links.TheConstants.{LATEST_SLOT}
 use Rattle.plan_cert.specs.declared.Segment.{Segment}
@@ -9,7 +9,7 @@ use Rattle.film_frames.specs.FramedRuns.{run_pieces}
 use Rattle.film_run.specs.declared.runs.Run.{Run}
 use Rattle.session.specs.RunRequests.{sending_of, IsPlayable}
 use Rattle.session.specs.SessionInvariant.{SessionContext, IsAwaitedInvariant, IsGoing, IsPlaying, IsSessionInvariant}
-use Rattle.session.specs.SessionInvariant.{IsStateInvariant, IsStopAnswered, awaited_offers, awaited_plays}
+use Rattle.session.specs.SessionInvariant.{IsStateInvariant, IsStepped, IsStopAnswered, awaited_offers, awaited_plays}
 use Rattle.session.specs.SessionInvariant.{awaited_receipts, open_receipts, session_context_of}
 use Rattle.session.specs.RequestedPlans.{IsPausedIn}
 use Rattle.session.specs.ResumedPlays.{IsPacedPlay}
@@ -27,23 +27,6 @@ use Rattle.session.specs.declared.states.Teardown.{Teardown}
 use Rattle.film_streams.specs.declared.setups.Setup.{Setup}
 use Rattle.session.specs.declared.states.State.{State}
 use Rattle.session.specs.declared.states.State.TheVariants.{Init, Ready, Playing, Stopping}
-
--- a session has room for the receipts and the notes that are still to come
-abbrev pub HasRooms : Inside → Type 0
-HasRooms session = (session.looks_left
-    + (open_receipts session.state + awaited_receipts session.awaited) ≤ session.log.receipt_room)
-    × (open_receipts session.state + awaited_plays session.awaited ≤ session.log.play_room)
-    × (awaited_offers session.awaited ≤ session.log.offer_room)
-
--- the parts that a step changes of a session fit each other
-pub record IsStepped (new : Inside) : Type 0 where
-  pub state : IsStateInvariant (session_context_of new) new.state
-  pub awaited : IsAwaitedInvariant (session_context_of new) new.lost new.state new.awaited
-  pub stop : IsStopAnswered new.state new.waits
-  pub rooms : HasRooms new
-  pub torn : is_tearing new.teardown ≡ true → new.waits ≡ false → is_torn_down new.teardown ≡ true
-  pub slots : (new.late ≤ new.heard) × (new.heard ≤ LATEST_SLOT)
-  pub front : awaited_plays new.awaited ≡ 1 → length new.reply ≤ 20000
 
 -- a session with the parts of an older one that a step changes
 abbrev pub with_parts_of : Inside → Inside → Inside
@@ -65,22 +48,7 @@ pub step_kept : {old new : Inside} → IsSessionInvariant old → with_parts_of 
     → IsSessionInvariant new
 step_kept {old} {new} kept same step =
     let before : IsSessionInvariant (with_parts_of old new) = subst IsSessionInvariant (sym same) kept in
-    record {
-      films = before.films;
-      settings = before.settings;
-      id = before.id;
-      state = step.state;
-      awaited = step.awaited;
-      stop = step.stop;
-      receipt_room = step.rooms.0;
-      play_room = step.rooms.1;
-      offer_room = step.rooms.2;
-      looks = before.looks;
-      torn = step.torn;
-      late = step.slots.0;
-      heard = step.slots.1;
-      front = step.front;
-    }
+    record { films = before.films; settings = before.settings; id = before.id; looks = before.looks; stepped = step }
 
 play_kept : (old new : Played) → IsPacedPlay old → new.run ≡ old.run → new.plan ≡ old.plan
     → IsSamePacing old.pacer new.pacer → IsPacedPlay new
@@ -198,7 +166,7 @@ slot_kept {inside} slot awaited even is =
       state = same.state;
       awaited = finished.kept;
       stop = same.stop inside.waits kept.stop;
-      rooms = (omega (arith, kept.receipt_room), omega (arith, kept.play_room), omega arith);
+      rooms = (omega (arith, kept.rooms.0), omega (arith, kept.rooms.1), omega arith);
       torn = kept.torn;
       slots = slot.slots;
       front = λ asks. absurd (omega (arith, asks));
@@ -222,7 +190,7 @@ slot_lost {inside} slot =
       awaited = subst (λ (a : Awaited). IsAwaitedInvariant ground true slot.state a) (sym slot.none)
           (lost_going slot.state);
       stop = same.stop inside.waits kept.stop;
-      rooms = (omega (arith, kept.receipt_room), omega (arith, kept.play_room), kept.offer_room);
+      rooms = (omega (arith, kept.rooms.0), omega (arith, kept.rooms.1), kept.rooms.2);
       torn = kept.torn;
       slots = slot.slots;
       front = kept.front;
@@ -263,9 +231,9 @@ reply_kept {inside} teardown kept tearing torn =
       state = same.state;
       awaited = same.kept;
       stop = same.stop;
-      rooms = (omega (arith, kept.receipt_room), omega (arith, kept.play_room), kept.offer_room);
+      rooms = (omega (arith, kept.rooms.0), omega (arith, kept.rooms.1), kept.rooms.2);
       torn = λ tears waits. torn ∙ sym tearing ∙ tears;
-      slots = (kept.late, kept.heard);
+      slots = kept.slots;
       front = kept.front;
     })
 

@@ -29,12 +29,17 @@ use Rattle.film_streams.specs.SettingRanges.{AreSettings, IsSetup}
 use Rattle.session.specs.SlotSteps.{next_of}
 use Rattle.session.specs.SessionStates.{SessionState}
 
+-- the packets are numbered on from the same numbers
+pub record AreSameNumbers (old new : SessionState) : Type 0 where
+  pub source : new.source ≡ old.source
+  pub counts : new.counts ≡ old.counts
+
 -- what no request changes
 pub record IsSameContext (old new : SessionState) : Type 0 where
   pub films : new.films ≡ old.films
   pub settings : new.settings ≡ old.settings
-  pub source : new.source ≡ old.source
-  pub counts : new.counts ≡ old.counts
+  pub numbers : AreSameNumbers old new
+  pub open numbers use *
   pub heard : new.heard ≡ old.heard
   pub plays : new.plays ≡ old.plays
 

@@ -85,22 +85,12 @@ pub record SessionContext : Type 0 where
   pub settings : Settings
   pub counts : Counts
 
-abbrev pub session_context_of : Inside → SessionContext
-session_context_of session = record {
-  films = session.films.now;
-  source = session.source;
-  settings = session.settings;
-  counts = session.counts;
-}
-
--- the same, of a session as contracts see it
 abbrev pub context_of : SessionState → SessionContext
-context_of old = record {
-  films = old.films;
-  source = old.source;
-  settings = old.settings;
-  counts = old.counts;
-}
+context_of old =
+    record { films = old.films; source = old.source; settings = old.settings; counts = old.counts }
+
+abbrev pub session_context_of : Inside → SessionContext
+session_context_of session = context_of (session_state_of session)
 
 -- a play is sent as such a run
 pub record IsPlaying (stored : Stored) (source : StreamSource) (settings : Settings) (setup : Setup)
@@ -165,25 +155,32 @@ abbrev pub IsStopAnswered : State → Bool → Type 0
 IsStopAnswered (Stopping setup stop) waits = waits ≡ true
 IsStopAnswered _ waits = ⊤
 
-pub record IsSessionInvariant (session : Inside) : Type 0 where
-  pub films : AreFilms session.films.now
-  pub settings : AreSettings session.settings
-  pub id : is_one_line session.id ≡ true
+-- a session has room for the receipts and the notes that are still to come
+abbrev pub HasRooms : Inside → Type 0
+HasRooms session = (session.looks_left
+    + (open_receipts session.state + awaited_receipts session.awaited) ≤ session.log.receipt_room)
+    × (open_receipts session.state + awaited_plays session.awaited ≤ session.log.play_room)
+    × (awaited_offers session.awaited ≤ session.log.offer_room)
+
+-- the parts of a session that a step changes fit each other
+pub record IsStepped (session : Inside) : Type 0 where
   pub state : IsStateInvariant (session_context_of session) session.state
   pub awaited : IsAwaitedInvariant (session_context_of session) session.lost session.state
       session.awaited
   pub stop : IsStopAnswered session.state session.waits
-  pub receipt_room : session.looks_left
-      + (open_receipts session.state + awaited_receipts session.awaited) ≤ session.log.receipt_room
-  pub play_room : open_receipts session.state
-      + awaited_plays session.awaited ≤ session.log.play_room
-  pub offer_room : awaited_offers session.awaited ≤ session.log.offer_room
-  pub looks : session.looks_left ≤ RESERVED_LOOKS
+  pub rooms : HasRooms session
   pub torn : is_tearing session.teardown ≡ true → session.waits ≡ false
       → is_torn_down session.teardown ≡ true
-  pub late : session.late ≤ session.heard
-  pub heard : session.heard ≤ LATEST_SLOT
+  pub slots : (session.late ≤ session.heard) × (session.heard ≤ LATEST_SLOT)
   pub front : awaited_plays session.awaited ≡ 1 → length session.reply ≤ 20000
+
+pub record IsSessionInvariant (session : Inside) : Type 0 where
+  pub films : AreFilms session.films.now
+  pub settings : AreSettings session.settings
+  pub id : is_one_line session.id ≡ true
+  pub looks : session.looks_left ≤ RESERVED_LOOKS
+  pub stepped : IsStepped session
+  pub open stepped use *
 
 -- what every session satisfies, whatever happened to it: the films and the settings are in their
 -- ranges; a paused run can be sent on; a play that is sent has the plan of its run, and is sent by

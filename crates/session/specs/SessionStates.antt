@@ -163,14 +163,19 @@ abbrev pub booking_of : AwaitedAnswer → ℕ → Option OpenBooking
 booking_of (PlayAnswer plan) start = Some (record { plan = plan; start = start; due = 0 })
 booking_of _ start = None
 
+-- no play and no offer was noted, and no slot was missed
+pub record AreNotesUnchanged (old new : SessionState) : Type 0 where
+  pub plays : new.plays ≡ old.plays
+  pub offers : new.offers ≡ old.offers
+  pub late : new.late ≡ old.late
+
 -- what a call leaves as it was
 pub record IsSameStationState (old new : SessionState) : Type 0 where
   pub heard : new.heard ≡ old.heard
   pub booking : open_of new ≡ open_of old
   pub receipts : new.receipts ≡ old.receipts
-  pub plays : new.plays ≡ old.plays
-  pub offers : new.offers ≡ old.offers
-  pub late : new.late ≡ old.late
+  pub notes : AreNotesUnchanged old new
+  pub open notes use *
   pub torn : new.torn ≡ old.torn
   pub lost : new.lost ≡ old.lost
 
@@ -187,12 +192,6 @@ pub record IsAnswerRecorded (old : SessionState) (receipt : Receipt) (new : Sess
     pub heard : new.heard ≡ old.heard
     pub torn : new.torn ≡ old.torn
     pub lost : new.lost ≡ old.lost
-
--- no play and no offer was noted, and no slot was missed
-pub record AreNotesUnchanged (old new : SessionState) : Type 0 where
-  pub plays : new.plays ≡ old.plays
-  pub offers : new.offers ≡ old.offers
-  pub late : new.late ≡ old.late
 
 -- a request can be received: nothing is awaited, no reply waits, and the connection goes on
 pub record CanHandleRequest (standing : SessionState) : Type 0 where

@@ -12,13 +12,7 @@ returns-in-New-clause-goes_on c =
     subst (λ (n : Counts). IsRunOf stored c.args.source setup n c.in-New.run') (sym c.counts_before.ensures)
     (subst (λ (w : PlayRequest). IsRunOf stored c.args.source setup
     (counts_for stored.film c.args.source setup c.args.counts c.args.paused w) (run_of w)) c.in-New.is
-    (goes_on (record {
-      stored = stored;
-      source = c.args.source;
-      setup = setup;
-      counts = c.args.counts;
-      kept = c.requires.paused;
-    }) c.requires.wanted.1))
+    (goes_on (record { stored = _; source = _; setup = _; counts = _; kept = c.requires.paused }) c.requires.wanted.1))
 
 pub returns-in-Resumed-clause-goes_on : goal.returns-in-Resumed-clause-goes_on
 returns-in-Resumed-clause-goes_on c =
@@ -26,10 +20,4 @@ returns-in-Resumed-clause-goes_on c =
     let setup = c.args.setup.now in
     subst (λ (w : PlayRequest). IsRunOf stored c.args.source setup
     (counts_for stored.film c.args.source setup c.args.counts c.args.paused w) (run_of w)) c.in-Resumed.is
-    (goes_on (record {
-      stored = stored;
-      source = c.args.source;
-      setup = setup;
-      counts = c.args.counts;
-      kept = c.requires.paused;
-    }) c.requires.wanted.1)
+    (goes_on (record { stored = _; source = _; setup = _; counts = _; kept = c.requires.paused }) c.requires.wanted.1)

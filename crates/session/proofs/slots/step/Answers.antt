@@ -1,5 +1,5 @@
-use Rattle.std.proofs.Common.{ℕ, ◌<◌, Bool, ap, subst, sym, ◌∙◌}
-use Rattle.pacer.specs.PacerStates.{after_step}
+use Rattle.std.proofs.Common.{ℕ, ◌≡◌, ◌<◌, ◌-◌, Bool, true, ap, subst, sym, ◌∙◌}
+use Rattle.pacer.specs.PacerStates.{IsPacerState, PacerState, after_step, stands_at_boundary}
 use Rattle.vod_base.specs.Links.{IsSentPrefix}
 use Rattle.session.specs.SlotSteps.{step_bytes}
 use Rattle.session.specs.SlotTransitions.{IsPacingIn}
@@ -8,21 +8,21 @@ use Rattle.session.proofs.FailedSlotLemmas.{failed_front, on_err}
 use Rattle.session.proofs.StopBoundaryLemmas.{stop_between}
 use Rattle.session.proofs.slots.step.Goals as goal
 
-pub returns-in_ok-step-in-Playing-clause-between :
-    goal.returns-in_ok-step-in-Playing-clause-between
-returns-in_ok-step-in-Playing-clause-between g c more stops =
-    let step = c.in_ok-step-in-Playing in
-    stop_between c.args.slot _ _ (subst IsPacingIn c.in-Playing.is c.requires)
-    (step.ensures.state ∙ ap (λ (b : Bool). after_step b c.args.slot c.in-Playing.play.pacer) stops)
-    (subst (λ (n : ℕ). 0 < n) step.ensures.answer.left more)
+-- a step with a stop that leaves something that is due ends between two frames
+between : (slot : ℕ) {stop : Bool} {old new : PacerState} → IsPacerState old → new ≡ after_step stop slot old
+    → stop ≡ true → 0 < new.due - new.sent → stands_at_boundary new ≡ true
+between slot {old = old} is stepped stops =
+    stop_between slot _ _ is (stepped ∙ ap (λ (b : Bool). after_step b slot old) stops)
 
-pub returns-in_ok-step-in-Stopping-clause-between :
-    goal.returns-in_ok-step-in-Stopping-clause-between
+pub returns-in_ok-step-in-Playing-clause-between : goal.returns-in_ok-step-in-Playing-clause-between
+returns-in_ok-step-in-Playing-clause-between g c more stops =
+    let step = c.in_ok-step-in-Playing.ensures in
+    between c.args.slot (subst IsPacingIn c.in-Playing.is c.requires) step.state stops (subst (λ n. 0 < n) step.answer.left more)
+
+pub returns-in_ok-step-in-Stopping-clause-between : goal.returns-in_ok-step-in-Stopping-clause-between
 returns-in_ok-step-in-Stopping-clause-between g c more stops =
-    let step = c.in_ok-step-in-Stopping in
-    stop_between c.args.slot _ _ (subst IsPacingIn c.in-Stopping.is c.requires)
-    (step.ensures.state ∙ ap (λ (b : Bool). after_step b c.args.slot c.in-Stopping.halted.pacer) stops)
-    (subst (λ (n : ℕ). 0 < n) step.ensures.answer.left more)
+    let step = c.in_ok-step-in-Stopping.ensures in
+    between c.args.slot (subst IsPacingIn c.in-Stopping.is c.requires) step.state stops (subst (λ n. 0 < n) step.answer.left more)
 
 pub returns-in_err-step-in-Playing-clause-front : goal.returns-in_err-step-in-Playing-clause-front
 returns-in_err-step-in-Playing-clause-front g c =

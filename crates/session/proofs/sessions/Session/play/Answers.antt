@@ -1,19 +1,14 @@
 use Rattle.std.proofs.Common.{◌≡◌, ℕ, List, Option, Ok, sym, subst}
-use Rattle.session.specs.SessionInvariant.{IsStateInvariant, session_context_of}
+use Rattle.session.proofs.PlayRequestLemmas.{paused_in}
 use Rattle.session.specs.Methods.{Plays}
-use Rattle.session.specs.RequestedPlans.{IsPausedIn, IsPlanned}
+use Rattle.session.specs.RequestedPlans.{IsPlanned}
 use Rattle.session.specs.SessionStates.{SessionState}
 use Rattle.session.specs.declared.states.State.{State}
 use Rattle.session.specs.declared.states.State.TheVariants.{Ready}
 use Rattle.session.proofs.sessions.Session.play.Goals as goal
 
 pub plan_play-requires-clause-paused : goal.plan_play-requires-clause-paused
-plan_play-requires-clause-paused c =
-    let inside = c.self.inside in
-    let kept = subst (λ (s : State). IsStateInvariant (session_context_of inside) s) c.in-Ready.is
-    c.self.invariant.state in
-    subst (λ (old : SessionState). IsPausedIn old.films old.source old.counts c.in-Ready.setup c.in-Ready.paused)
-    c.self.view_is kept.1
+plan_play-requires-clause-paused c = paused_in c.self.invariant c.self.view_is c.in-Ready.is
 
 pub returns-in-Ok-clause-exact : goal.returns-in-Ok-clause-exact
 returns-in-Ok-clause-exact c =

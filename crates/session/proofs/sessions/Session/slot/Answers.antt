@@ -4,35 +4,28 @@ use Rattle.session.specs.SessionStates.{AwaitsNoAnswer}
 use Rattle.session.specs.declared.sessions.Session.TheInside.{Inside}
 use Rattle.session.specs.declared.states.State.{State}
 use Rattle.session.proofs.StepInvariantLemmas.{ReceivedSlot, done_before, nothing_of, reply_kept, slot_kept, slot_lost}
-use Rattle.session.proofs.sessions.Session.slot.Goals.{then-replied, else-replied}
+use Rattle.session.proofs.sessions.Session.slot.Goals.{After-send_due, then-replied, else-replied}
 use Rattle.session.proofs.sessions.Session.slot.Goals as goal
+
+-- the slot is in the session's order, and what was due in it was sent, or a send failed
+abbrev received : (g : _) (c : After-send_due g) → ReceivedSlot c.self.inside
+received g c = record {
+  kept = c.self.invariant;
+  none = nothing_of c.self.inside.awaited (subst AwaitsNoAnswer (sym c.self.view_is) c.requires.rest);
+  heard = c.replace-before.new.dest;
+  late = c.self.inside.late + c.missed_slots.result;
+  slots = (search rules, search rules);
+  state = c.send_due.new.state;
+  carried = c.send_due.ensures.carried;
+}
 
 pub invariant_of-self-in_default-send_due : goal.invariant_of-self-in_default-send_due
 invariant_of-self-in_default-send_due g c =
-    let rest = subst AwaitsNoAnswer (sym c.self.view_is) c.requires.rest in
-    let slot : ReceivedSlot c.self.inside = record {
-      kept = c.self.invariant;
-      none = nothing_of c.self.inside.awaited rest;
-      heard = c.replace-before.new.dest;
-      late = c.self.inside.late + c.missed_slots.result;
-      slots = (search rules, search rules);
-      state = c.send_due.new.state;
-      carried = c.send_due.ensures.carried;
-    } in
-    slot_lost slot
+    slot_lost (received g (goal.at.invariant_of-self-in_default-send_due g c).After-send_due)
 
 pub invariant_of-self-2 : goal.invariant_of-self-2
 invariant_of-self-2 g c =
-    let rest = subst AwaitsNoAnswer (sym c.self.view_is) c.requires.rest in
-    let slot : ReceivedSlot c.self.inside = record {
-      kept = c.self.invariant;
-      none = nothing_of c.self.inside.awaited rest;
-      heard = c.replace-before.new.dest;
-      late = c.self.inside.late + c.missed_slots.result;
-      slots = (search rules, search rules);
-      state = c.send_due.new.state;
-      carried = c.send_due.ensures.carried;
-    } in
+    let slot : ReceivedSlot c.self.inside = received g (goal.at.invariant_of-self-2 g c).After-send_due in
     let awaited = c.finish.new.awaited in
     let done : HaltsIfDone c.if-replied.self-inside.state awaited = c.finish.ensures.halt in
     elim c.if-replied.branch [
