@@ -1,6 +1,6 @@
 -- Passes that are split and joined keep the invariant, and the first state has it.
 use Rattle.std.proofs.Common.{◌≡◌, ◌≢◌, ◌⊎◌, ℕ, zero, suc, ◌+◌, ◌^◌, ◌<◌, ◌≤◌, List, [], ◌∷◌, ◌++◌, length, set}
-use Rattle.std.proofs.Common.{Some, Bool, false, refl, ap, sym}
+use Rattle.std.proofs.Common.{Option, Some, Bool, false, refl, ap, sym}
 use Rattle.std.proofs.Common.{◌∙◌, subst, ⊎_elim, inl, inr, arith, cond, true≢false}
 use mathlib.Core.Logic.{dite}
 use mathlib.Core.List.{IsPrefix}
@@ -8,6 +8,7 @@ use mathlib.Core.Option.{some, some-injective, some-ne-none}
 use native.Mathlib.Decide.{dec_le}
 use lib.ListN.{get_elem?}
 use Rattle.std.proofs.lemmas.Bool.{lt-ltb, le-ltb}
+use Rattle.atomic_table.specs.declared.shared.Seat.{Seat}
 use Rattle.atomic_table.specs.Table.{Splits, Joins, opening}
 use Rattle.atomic_table.proofs.Lists.{set_else, at_longer}
 use Rattle.admission.specs.declared.entries.Entry.{Entry}
@@ -16,6 +17,7 @@ use Rattle.turnstile.specs.declared.view.PassStage.TheVariants.{Idle}
 use Rattle.turnstile.specs.declared.view.View.{View}
 use Rattle.admission.specs.Makers.{entries_by}
 use Rattle.turnstile.specs.TurnRule.{pass_count, ticket_count, IsLive, IsPast, Fits, Apart}
+use Rattle.turnstile.specs.TableSeats.{IsFree}
 use Rattle.turnstile.specs.Passes.{longer_list}
 use Rattle.turnstile.specs.Steps.{shorter_list, first_view, view_after_split, split_view, joined_record}
 use Rattle.turnstile.specs.Steps.{view_after_join, spent_view}
@@ -81,6 +83,10 @@ pub record Resting : Type 0 where
   pub view : View
   pub left : view.spent ≡ false
   pub idle : view.stage ≡ Idle
+
+-- the pass of a seat that is free
+abbrev pub resting : {B : Type 0} (seat : Seat (Option B) View) → IsFree seat.me → Resting
+resting seat free = record { id = seat.id; view = seat.me.0; left = free.left; idle = free.idle }
 
 -- what is true for each that was joined to either of two is true for each that the first has then
 each_joined : (v w : View) (P : Joined → Type 0) → EachJoined v P → P (joined_record w) → EachJoined w P
@@ -172,12 +178,7 @@ module _ (kept : KeptValue) where
       → Splits Rule it.id it.view (view_after_split it.view) (split_view it.view)
   unfolding step.changes step.steps
   splits it head few s r at =
-      let p : step.Pass kept =
-      record {
-        state = s;
-        rule = r;
-        live = record { id = id; view = v; is_live = (at, it.left) };
-      } in
+      let p : step.Pass kept = step.pass_at kept r id at it.left in
       let f = step.fits_of kept p in let count = f.numbers.first head in
       let w : View = view_after_split v in let x : View = split_view v in let views : List View = set s.views id w in
       let r' = step.steps kept p (numbered p it.idle head few)
@@ -283,12 +284,7 @@ module _ (kept : KeptValue) where
   unfolding step.changes
   joins rest other_rest not_first s r at apart wat =
       let b : View = view_after_join v w in
-      let p : step.Pass kept =
-      record {
-        state = s;
-        rule = r;
-        live = record { id = id; view = v; is_live = (at, rest.left) };
-      } in
+      let p : step.Pass kept = step.pass_at kept r id at rest.left in
       let o : Live s.views =
       record { id = other; view = w; is_live = (sym (set_else s.views id other b apart) ∙ wat, other_rest.left) } in
       let without = step.changes kept (step.at kept p o) (gone (step.at kept p o) other_rest.idle)

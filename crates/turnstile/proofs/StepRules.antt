@@ -66,6 +66,11 @@ module _ (kept : KeptValue) where
     pub live : Live state.views
     pub open live use *
 
+  -- the pass at a place of such a state
+  abbrev pub pass_at : {s : St} {v : View} → Rule s → (id : ℕ) → get_elem? s.views id ≡ some v → v.spent ≡ false → Pass
+  pass_at {s} {v} rule id here left =
+      record { state = s; rule = rule; live = record { id = id; view = v; is_live = (here, left) } }
+
   -- it and another pass stand apart
   pub apart_of : (p : Pass) (o : Live p.state.views) → o.id ≢ p.id → Both p.view o.view
   apart_of p o other = (
@@ -201,7 +206,7 @@ module _ (kept : KeptValue) where
   pub reads : (id slots : ℕ) (me : Me (Option B) View) → me.0.spent ≡ false
       → Allows Rule slots id me 0 (λ n. n) (HasRead me)
   reads id slots me left s r deep here low =
-      let p : Pass = record { state = s; rule = r; live = record { id = id; view = me.0; is_live = (here, left) } } in
+      let p : Pass = pass_at r id here left in
       let f = fits_of p in (
         me.0,
         keeps,
@@ -237,11 +242,7 @@ module _ (kept : KeptValue) where
   pub draws : (id slots : ℕ) (me : Me (Option B) View) → IsFree me
       → Allows Rule slots id me 0 (λ n. (n + 1) % 2 ^ 64) (HasDrawn me)
   draws id slots me it s r deep here low =
-      let p : Pass = record {
-        state = s;
-        rule = r;
-        live = record { id = id; view = me.0; is_live = (here, it.left) };
-      } in (
+      let p : Pass = pass_at r id here it.left in (
         record me.0 { stage = Waits r.drawn },
         keeps,
         tt,
@@ -383,7 +384,7 @@ module _ (kept : KeptValue) where
       v = me.0
 
       p : Pass
-      p = record { state = s; rule = r; live = record { id = id; view = v; is_live = (here, left) } }
+      p = pass_at r id here left
 
       f : Fits terms r.lock v
       f = fits_of p
@@ -453,11 +454,7 @@ module _ (kept : KeptValue) where
       → Allows Rule slots id me 2 (λ n. (n + 1) % 2 ^ 64) (HasCounted entries me)
   counts_entry id slots me turn one s r deep here low =
       let it = turn.1 in let e = one.0 in
-      let p : Pass = record {
-        state = s;
-        rule = r;
-        live = record { id = id; view = me.0; is_live = (here, it.left) };
-      } in
+      let p : Pass = pass_at r id here it.left in
       let n = counted p it.stage e one.2 in (
         n.new,
         keeps,
@@ -519,8 +516,7 @@ module _ (kept : KeptValue) where
       → (value : B) × IsTurn me (Some value) × (entries value ≡ me.0.seen) × (terms_of value ≡ me.0.terms)
       → Allows Rule slots id me 1 (λ n. (n + 1) % 2 ^ 64) (HasLeft me)
   leaves id slots me turn s r deep here low =
-      let p : Pass =
-      record { state = s; rule = r; live = record { id = id; view = me.0; is_live = (here, turn.1.left) } } in (
+      let p : Pass = pass_at r id here turn.1.left in (
         record me.0 { stage = Idle },
         gives,
         tt,

@@ -1,6 +1,6 @@
 use Rattle.std.proofs.Common.{arith, ap, sym, ◌∙◌}
 use Rattle.turnstile.proofs.StepRules.{kept_by}
-use Rattle.turnstile.proofs.SplitsAndJoins.{joins}
+use Rattle.turnstile.proofs.SplitsAndJoins.{joins, resting}
 use Rattle.turnstile.proofs.turnstile.Turnstile.join.Goals as goal
 
 pub join_seat-requires : goal.join_seat-requires
@@ -12,17 +12,6 @@ join_seat-requires g c =
       theirs.empty,
       omega arith,
       joins (kept_by g.B.Kept.entries g.B.Kept.terms c.self.inside.table.shared.key.value)
-          (record {
-            id = c.take_seat-place.result.id;
-            view = c.take_seat-place.result.me.0;
-            left = free.left;
-            idle = free.idle;
-          })
-          (record {
-            id = c.take_seat-theirs.result.id;
-            view = c.take_seat-theirs.result.me.0;
-            left = theirs.left;
-            idle = theirs.idle;
-          })
+          (resting c.take_seat-place.result free) (resting c.take_seat-theirs.result theirs)
           (λ first. c.requires.not_first (ap (λ p. p.number) c.take_seat-theirs.ensures.old ∙ first)),
     )

@@ -1,6 +1,6 @@
 use Rattle.std.proofs.Common.{arith, ap, sym, ◌∙◌}
 use Rattle.turnstile.proofs.StepRules.{kept_by}
-use Rattle.turnstile.proofs.SplitsAndJoins.{splits}
+use Rattle.turnstile.proofs.SplitsAndJoins.{resting, splits}
 use Rattle.turnstile.proofs.turnstile.Turnstile.split.Goals as goal
 
 pub split_seat-other-requires : goal.split_seat-other-requires
@@ -11,10 +11,5 @@ split_seat-other-requires g c =
       sym (ap (λ p. p.id) old) ∙ (c.requires.own ∙ sym (ap (λ x. x.id) c.self.view_is)),
       omega arith,
       splits (kept_by g.B.Kept.entries g.B.Kept.terms c.self.inside.table.shared.key.value)
-          (record {
-            id = c.take_seat-place.result.id;
-            view = c.take_seat-place.result.me.0;
-            left = free.left;
-            idle = free.idle;
-          }) (view.number_is ∙ c.requires.first) (omega arith),
+          (resting c.take_seat-place.result free) (view.number_is ∙ c.requires.first) (omega arith),
     )
