@@ -10,9 +10,7 @@ use Rattle.station.specs.Seats.{IsSameSeat, SeatState}
 pub seat_seen : (seat : SeatState) (seen : List Entry) (mine : List PlacedEntry) → IsPrefix seat.seen seen
     → IsSameSeat seat (record seat { seen = seen; mine = mine })
 seat_seen seat seen mine longer = record {
-  id = refl;
-  steps = refl;
-  limit = refl;
+  station = record { id = refl; steps = refl; limit = refl };
   number = refl;
   splits = refl;
   joined = refl;
@@ -25,12 +23,10 @@ seat_none seat = seat_seen seat seat.seen seat.mine (prefix_self seat.seen)
 
 -- one call after another
 pub seat_on : (a b c : SeatState) → IsSameSeat a b → IsSameSeat b c → IsSameSeat a c
-seat_on a b c first second = record {
-  id = second.id ∙ first.id;
-  steps = second.steps ∙ first.steps;
-  limit = second.limit ∙ first.limit;
-  number = second.number ∙ first.number;
-  splits = second.splits ∙ first.splits;
-  joined = second.joined ∙ first.joined;
-  longer = prefix_trans a.seen b.seen c.seen first.longer second.longer;
+seat_on a b c first next = record {
+  station = record { id = next.id ∙ first.id; steps = next.steps ∙ first.steps; limit = next.limit ∙ first.limit };
+  number = next.number ∙ first.number;
+  splits = next.splits ∙ first.splits;
+  joined = next.joined ∙ first.joined;
+  longer = prefix_trans a.seen b.seen c.seen first.longer next.longer;
 }

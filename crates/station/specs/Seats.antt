@@ -48,11 +48,16 @@ first_seat hall = record {
   joined = [];
 }
 
--- what a call at the book leaves of a seat: all but what it has seen and made
-pub record IsSameSeat (old new : SeatState) : Type 0 where
+-- two seats of one station, with its terms
+pub record AreOfOneStation (old new : SeatState) : Type 0 where
   pub id : new.id ≡ old.id
   pub steps : new.steps ≡ old.steps
   pub limit : new.limit ≡ old.limit
+
+-- what a call at the book leaves of a seat: all but what it has seen and made
+pub record IsSameSeat (old new : SeatState) : Type 0 where
+  pub station : AreOfOneStation old new
+  pub open station use *
   pub number : new.number ≡ old.number
   pub splits : new.splits ≡ old.splits
   pub joined : new.joined ≡ old.joined
@@ -64,16 +69,11 @@ after_split seat = record seat { splits = seat.splits + 1 }
 
 -- the seat that was split from it
 abbrev pub new_seat : SeatState → SeatState
-new_seat seat = record {
-  id = seat.id;
-  steps = seat.steps;
-  limit = seat.limit;
-  number = seat.splits + 1;
-  seen = seat.seen;
-  mine = [];
-  splits = 0;
-  joined = [];
-}
+new_seat seat =
+    record (first_seat (record { id = seat.id; steps = seat.steps; limit = seat.limit })) {
+      number = seat.splits + 1;
+      seen = seat.seen;
+    }
 
 -- a seat after another was joined to it
 abbrev pub after_join : SeatState → SeatState → SeatState
