@@ -45,7 +45,7 @@ use Rattle.conn.proofs.StationAnswers.{ComesAs, comes_as, BytesCame, SlotCame}
 pub new_well : (films : List Stored) (settings : Settings) (words : List ℕ) → AreShown films → AreSettings settings →
     IsWell (new_session_state films settings words) []
 new_well films settings words shown good =
-    record { films = shown; settings = good; unstopped = refl; state = tt }
+    record { serves = record { films = shown; settings = good }; unstopped = refl; state = tt }
 
 -- the latest slot after a slot
 heard_cases : {slot : ℕ} (taken sending : Bool) (standings : SlotStandings) → standings.sending.heard ≡ slot →

@@ -99,10 +99,21 @@ IsStateOf ground (Ready setup paused) = IsSetup (length ground.films) setup
 IsStateOf ground (Playing setup play) = IsSetup (length ground.films) setup × HasPlay ground.sending setup play
 IsStateOf ground (Stopping setup stop) = IsSetup (length ground.films) setup × HasStopped ground setup stop
 
+-- films that can be shown, and settings in their ranges
+pub record CanServe (stored : List Stored) (own : Settings) : Type 0 where
+  pub films : AreShown stored
+  pub settings : AreSettings own
+
+-- the same films and settings
+pub serves_on : {stored now : List Stored} {own new : Settings} → now ≡ stored → new ≡ own → CanServe stored own
+    → CanServe now new
+serves_on films settings serves =
+    record { films = subst AreShown (sym films) serves.films; settings = subst AreSettings (sym settings) serves.settings }
+
 -- a session in a course, with what was sent of its play
 pub record IsWell (s : SessionState) (film : List ℕ) : Type 0 where
-  pub films : AreShown s.films
-  pub settings : AreSettings s.settings
+  pub serves : CanServe s.films s.settings
+  pub open serves use *
   pub unstopped : AwaitsNoStop s
   pub state : IsStateOf (ground_of s film) s.state
 
@@ -140,8 +151,7 @@ IsHaltingIn ground awaited (Stopping setup stop) = IsSetup (length ground.films)
 
 -- a session of which a halt is asked
 pub record IsHalting (s : SessionState) (film : List ℕ) : Type 0 where
-  pub films : AreShown s.films
-  pub settings : AreSettings s.settings
+  pub serves : CanServe s.films s.settings
   pub state : IsHaltingIn (ground_of s film) s.awaited s.state
 
 -- a session that asked for this
@@ -170,8 +180,7 @@ record IsKept (old new : SessionState) : Type 0 where
 kept_well : {old new : SessionState} {film : List ℕ} → IsWell old film → IsKept old new
     → IsStateOf (ground_of old film) new.state → IsWell new film
 kept_well {old} {new} {film} well kept state = record {
-  films = subst AreShown (sym kept.same.films) well.films;
-  settings = subst AreSettings (sym kept.same.settings) well.settings;
+  serves = serves_on kept.same.films kept.same.settings well.serves;
   unstopped = kept.unstopped;
   state = subst (λ g. IsStateOf g new.state) (ground_same old new film kept.same) state;
 }
@@ -248,8 +257,7 @@ halting_well {old} {new} {film} well same is =
     let halt : IsHaltAwaited (ground_of old film) new.awaited is.setup play =
     record { keep_is = ap (λ a. kept_of a play.pacer.due) is.awaited; rest = rest } in
     record {
-      films = subst AreShown (sym same.films) well.films;
-      settings = subst AreSettings (sym same.settings) well.settings;
+      serves = serves_on same.films same.settings well.serves;
       state = subst (IsHaltingIn (ground_of new film) new.awaited) (sym is.now)
           (subst (λ g. IsHaltingIn g new.awaited (Playing is.setup play)) (ground_same old new film same)
           (was.0, halted_to (next_of new.awaited) halt));

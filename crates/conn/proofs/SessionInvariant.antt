@@ -26,7 +26,7 @@ use Rattle.session.specs.RequestEffects.{AwaitsNoStop}
 use Rattle.session.specs.RunRequests.{sending_of, playback_of}
 use Rattle.session.specs.RequestSteps.{after_admission, after_halt, counts_done, counts_next, counts_of}
 use Rattle.session.specs.RequestSteps.{halted_counts}
-use Rattle.film_streams.specs.SettingRanges.{AreSettings, IsSetup}
+use Rattle.film_streams.specs.SettingRanges.{IsSetup}
 use Rattle.session.specs.SlotSteps.{after_play, after_slot, can_reply, halted_in, halted_notes, is_between}
 use Rattle.session.specs.SlotSteps.{is_sending, kept_of, next_of, note_of, sent_due, sent_reply, state_once_halted}
 use Rattle.session.specs.SlotSteps.{stepped_in}
@@ -38,9 +38,9 @@ use Rattle.conn.specs.EventSteps.{Round, Runs, RunsAll}
 use Rattle.conn.specs.Films.{HasSentOn, IsReady}
 use Rattle.conn.specs.Plays.{film_in, film_since, film_taken}
 use Rattle.conn.proofs.PlayStart.{play_begins}
-use Rattle.conn.proofs.RequestInvariants.{AreShown, Ground, PlayGround, HasPlay, HasPrepared, HasStopped, IsAskedWell, IsHaltAwaited}
+use Rattle.conn.proofs.RequestInvariants.{Ground, PlayGround, HasPlay, HasPrepared, HasStopped, IsAskedWell, IsHaltAwaited}
 use Rattle.conn.proofs.RequestInvariants.{IsHaltedTo, IsHalting, IsHaltingIn, IsStateOf, IsWell, ground_of, ground_by}
-use Rattle.conn.proofs.RequestInvariants.{hears_well}
+use Rattle.conn.proofs.RequestInvariants.{hears_well, serves_on}
 use Rattle.conn.proofs.PlayProgress.{slot_any, slot_play}
 use Rattle.conn.proofs.ReplyPlacement.{no_film}
 use Rattle.conn.proofs.EventPremises.{PlayGoing, RequestHeard}
@@ -93,8 +93,7 @@ halted_state old film (Stopping setup stop) is =
 halted_well : {old : SessionState} {film : List ℕ} (placed : PlacedEntry) → IsHalting old film
     → IsWell (after_halt old placed.place) film
 halted_well {old} {film} placed well = record {
-  films = well.films;
-  settings = well.settings;
+  serves = well.serves;
   unstopped = refl;
   state = halted_state old film old.state well.state;
 }
@@ -108,8 +107,7 @@ halting_in ground awaited _ none is = is
 
 halting_of : (s : SessionState) (film : List ℕ) → IsWell s film → IsHalting s film
 halting_of s film well = record {
-  films = well.films;
-  settings = well.settings;
+  serves = well.serves;
   state = halting_in (ground_of s film) s.awaited s.state well.unstopped well.state;
 }
 
@@ -150,8 +148,7 @@ admitted_well {s} placed (well, asked) answered =
       sent = begun.sent;
     } in
     record {
-      films = well.films;
-      settings = well.settings;
+      serves = well.serves;
       unstopped = refl;
       state = subst (IsStateOf ground) (sym begun.state) (asked.values, play);
     }
@@ -173,15 +170,15 @@ heard_well {old} {film = film} r well =
         entry_well film placed entry.answer_is (admitted_well placed well answered)
     by-answer well (PlayOverflowed {placed = placed} entry) =
         entry_well film placed entry.answer_is
-        (record { films = well.0.films; settings = well.0.settings; unstopped = refl; state = well.0.state })
+        (record { serves = well.0.serves; unstopped = refl; state = well.0.state })
     by-answer well (PlayFull two) =
-        record { films = well.0.films; settings = well.0.settings; unstopped = refl; state = well.0.state }
+        record { serves = well.0.serves; unstopped = refl; state = well.0.state }
     by-answer well (PlayHalted {placed = placed} entry) = entry_well film placed entry.answer_is (halted_well placed well)
     by-answer well (LookMade {placed = placed} is) =
         entry_well film placed is
-        (record { films = well.films; settings = well.settings; unstopped = refl; state = well.state })
+        (record { serves = well.serves; unstopped = refl; state = well.state })
     by-answer well _ =
-        record { films = well.films; settings = well.settings; unstopped = refl; state = well.state }
+        record { serves = well.serves; unstopped = refl; state = well.state }
 
 -- a reply that was sent
 settled_well : (ground : Ground) (state : State) → IsStateOf ground state → IsStateOf ground (after_stop state)
@@ -192,8 +189,7 @@ reply_well : (goes : Bool) (s : SessionState) (film : List ℕ) → IsWell s fil
     → IsWell (if goes then sent_reply s else s) film
 reply_well false s film well = well
 reply_well true s film well = record {
-  films = well.films;
-  settings = well.settings;
+  serves = well.serves;
   unstopped = well.unstopped;
   state = settled_well (ground_of s film) s.state well.state;
 }
@@ -268,8 +264,8 @@ slot_well {more = more} old slot well state =
     let new : SessionState = after_slot old slot in
     let same : IsSameSession old new = slot_ground old slot in
     record {
-      films = subst AreShown (sym (ap (λ (g : Ground). g.films) same.ground)) well.films;
-      settings = subst AreSettings (sym (ap (λ (g : Ground). g.settings) same.ground)) well.settings;
+      serves = serves_on (ap (λ (g : Ground). g.films) same.ground) (ap (λ (g : Ground). g.settings) same.ground)
+          well.serves;
       unstopped = same.unstopped well.unstopped;
       state = subst (λ g. IsStateOf g new.state)
           (sym (ap (λ (g : Ground). ground_by g new.heard more) same.ground)) state;

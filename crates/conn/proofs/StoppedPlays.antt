@@ -153,20 +153,13 @@ pub stop_cut : {old s : SessionState} {more : List ℕ} (going : StopGoing old)
     → StopsOn (ground_of old going.film) going.setup going.stop s more
     → (stored : Stored) × IsCutBy old stored going.setup going.stop s.heard more
 stop_cut {old} {s} {more} going on =
-    let setup = going.setup in
-    let stop = going.stop in
-    let has = on.stopped in
-    let rest = has.rest in
-    let play = has.play in
     let stored = rest.stored in
-    let p = on.now in
     let its = rest.halted in
     let pieces : p.pieces ≡ play_pieces old stored setup play = rest.pieces in
     let count : length more ≡ p.sent = halted_count its in
     let slots : first_slots p.plan p.passed ≡ first_slots play.plan (s.heard + 1 - play.start) =
     ap (first_slots p.plan) its.passed ∙ ap (λ n. first_slots p.plan (s.heard + 1 - n)) rest.start
     ∙ ap (λ plan. first_slots plan (s.heard + 1 - play.start)) rest.plan in
-    let keep : p.keep ≡ stop.pacer.keep = on.keep in
     let size : p.before + p.sent - p.before ≡ length more = omega (arith, count) in
     let ends : IsBoundaryAfter p.pieces (p.before + length more) (p.before + stop.pacer.keep) =
     subst (λ n. IsBoundaryAfter p.pieces (p.before + length more) (p.before + n)) keep
@@ -175,8 +168,8 @@ stop_cut {old} {s} {more} going on =
       record {
         at = rest.at;
         play = play;
-        earlier = has.earlier;
-        noted = has.noted ∙ ap (λ n. has.earlier ++ note_of setup play n ∷ []) keep;
+        earlier = earlier;
+        noted = noted ∙ ap (λ n. earlier ++ note_of setup play n ∷ []) keep;
         sending = rest.sending;
         best = sending-best (stored_sizes stored) (client_of old stored setup) play.run play.plan rest.sending;
         count = omega (arith, count, its.sent, slots, keep);
@@ -187,3 +180,6 @@ stop_cut {old} {s} {more} going on =
             (subst (λ n. IsBoundaryAfter p.pieces (n + length more) (n + stop.pacer.keep)) rest.before ends);
       },
     )
+  where
+    open going use {setup, stop}
+    open on use {now as p, keep, stopped.{play, earlier, noted, rest}}
