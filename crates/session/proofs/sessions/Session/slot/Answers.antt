@@ -8,7 +8,7 @@ use Rattle.session.proofs.sessions.Session.slot.Goals.{After-send_due, then-repl
 use Rattle.session.proofs.sessions.Session.slot.Goals as goal
 
 -- the slot is in the session's order, and what was due in it was sent, or a send failed
-abbrev received : (g : _) (c : After-send_due g) → ReceivedSlot c.self.inside
+received : (g : _) (c : After-send_due g) → ReceivedSlot c.self.inside
 received g c = record {
   kept = c.self.invariant;
   none = nothing_of c.self.inside.awaited (subst AwaitsNoAnswer (sym c.self.view_is) c.requires.rest);
@@ -20,10 +20,12 @@ received g c = record {
 }
 
 pub invariant_of-self-in_default-send_due : goal.invariant_of-self-in_default-send_due
+unfolding received
 invariant_of-self-in_default-send_due g c =
     slot_lost (received g (goal.at.invariant_of-self-in_default-send_due g c).After-send_due)
 
 pub invariant_of-self-2 : goal.invariant_of-self-2
+unfolding received
 invariant_of-self-2 g c =
     let slot : ReceivedSlot c.self.inside = received g (goal.at.invariant_of-self-2 g c).After-send_due in
     let awaited = c.finish.new.awaited in
