@@ -1,8 +1,6 @@
 -- What a live pass is to the lock, and the facts that all live passes share.
-use Rattle.std.proofs.Common.{◌≡◌, ◌≢◌, ℕ, zero, suc, ◌+◌, ◌<◌, ◌≤◌, ◌⊎◌, List, [], ◌∷◌, ◌++◌}
-use Rattle.std.proofs.Common.{length, set, Option, Bool}
-use Rattle.std.proofs.Common.{false, ap, sym, ◌∙◌, subst, ⊎_elim, inl, inr, refl, arith}
-use Rattle.std.proofs.Common.{cond}
+use Rattle.std.proofs.Common.{◌≡◌, ◌≢◌, ℕ, zero, suc, ◌+◌, ◌<◌, ◌≤◌, ◌⊎◌, List, [], ◌∷◌, ◌++◌, length, set, Option}
+use Rattle.std.proofs.Common.{Bool, false, ap, sym, ◌∙◌, subst, ⊎_elim, inl, inr, refl, arith, cond}
 use mathlib.Core.Logic.{dite}
 use mathlib.Core.Option.{some, some-injective, some-ne-none}
 use native.Mathlib.Decide.{ℕ_discrete}

@@ -1,11 +1,9 @@
 -- Beginnings of one list, and what one maker has made in them.
 use Rattle.std.proofs.Common.{◌≡◌, ◌≢◌, ℕ, ◌+◌, ◌≤◌, List, [], ◌∷◌, ◌++◌, length, refl, ap, sym, ◌∙◌, arith}
-use Rattle.std.proofs.Common.{append_assoc, append-nil, true, false, Bool}
-use Rattle.std.proofs.Common.{if◌then◌else◌, ◌==◌, eq-eqb, ne_eqb}
+use Rattle.std.proofs.Common.{append_assoc, append-nil, true, false, Bool, if◌then◌else◌, ◌==◌, eq-eqb, ne_eqb}
 use mathlib.Core.List.{IsPrefix, append_cancel_left}
 use Rattle.admission.specs.declared.entries.Entry.{Entry}
-use Rattle.admission.specs.Makers.{PlacedEntry}
-use Rattle.admission.specs.Makers.{entries_by, made_from}
+use Rattle.admission.specs.Makers.{PlacedEntry, entries_by, made_from}
 
 -- each list begins with itself
 pub prefix_self : {A : Type 0} (xs : List A) → IsPrefix xs xs

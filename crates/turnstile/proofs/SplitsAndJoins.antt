@@ -1,7 +1,6 @@
 -- Passes that are split and joined keep the invariant, and the first state has it.
-use Rattle.std.proofs.Common.{◌≡◌, ◌≢◌, ◌⊎◌, ℕ, zero, suc, ◌+◌, ◌^◌, ◌<◌, ◌≤◌, List, [], ◌∷◌, ◌++◌, length, set}
-use Rattle.std.proofs.Common.{Option, Some, Bool, false, refl, ap, sym}
-use Rattle.std.proofs.Common.{◌∙◌, subst, ⊎_elim, inl, inr, arith, cond, true≢false}
+use Rattle.std.proofs.Common.{◌≡◌, ◌≢◌, ◌⊎◌, ℕ, zero, suc, ◌+◌, ◌^◌, ◌<◌, ◌≤◌, List, [], ◌∷◌, ◌++◌, length, set, Option}
+use Rattle.std.proofs.Common.{Some, Bool, false, refl, ap, sym, ◌∙◌, subst, ⊎_elim, inl, inr, arith, cond, true≢false}
 use mathlib.Core.Logic.{dite}
 use mathlib.Core.List.{IsPrefix}
 use mathlib.Core.Option.{some, some-injective, some-ne-none}

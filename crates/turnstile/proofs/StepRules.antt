@@ -1,7 +1,6 @@
 -- Each kind of step keeps the invariant.
 use Rattle.std.proofs.Common.{◌≡◌, ◌≢◌, ◌⊎◌, ℕ, ◌+◌, ◌%◌, ◌^◌, ◌<◌, ◌≤◌, List, [], ◌∷◌, ◌++◌, length, set, get_or}
-use Rattle.std.proofs.Common.{Option, Some, false, refl, ap, sym, ◌∙◌}
-use Rattle.std.proofs.Common.{subst, ⊎_elim, inl, inr, arith, length-append}
+use Rattle.std.proofs.Common.{Option, Some, false, refl, ap, sym, ◌∙◌, subst, ⊎_elim, inl, inr, arith, length-append}
 use mathlib.Core.Logic.{dite}
 use mathlib.Core.List.{IsPrefix}
 use mathlib.Core.Option.{some, none}
@@ -27,9 +26,8 @@ use Rattle.turnstile.specs.Steps.{HasDrawn, HasLooked, HasCounted, HasLeft, HasT
 use Rattle.turnstile.specs.Steps.{IsTurn, IsWaiting, slot_list}
 use Rattle.turnstile.proofs.Prefixes.{prefix_self, prefix_trans, prefix_longer, made_other}
 use Rattle.turnstile.proofs.PassSums.{total_set, tickets_total, one_or_none}
-use Rattle.turnstile.proofs.LivePasses.{lives, tickets_of, ticket_or, Free, idle_free, waits_free}
-use Rattle.turnstile.proofs.LivePasses.{ticket_low, turn_more}
-use Rattle.turnstile.proofs.LivePasses.{turn_next, apart_both, one_at, Live, holder_of, not_holder, Both}
+use Rattle.turnstile.proofs.LivePasses.{lives, tickets_of, ticket_or, Free, idle_free, waits_free, ticket_low}
+use Rattle.turnstile.proofs.LivePasses.{turn_more, turn_next, apart_both, one_at, Live, holder_of, not_holder, Both}
 use Rattle.turnstile.proofs.LivePasses.{first_set, live_set, live_here, live_else}
 
 -- what a turnstile reads of the values that it keeps, and what stays of its own

@@ -5,9 +5,8 @@ use mathlib.Core.List.{IsPrefix}
 use Rattle.atomic_table.specs.Seated.{TableId}
 use Rattle.admission.specs.declared.entries.Entry.{Entry}
 use Rattle.turnstile.specs.declared.view.Joined.{Joined}
-use Rattle.admission.specs.Makers.{PlacedEntry}
+use Rattle.admission.specs.Makers.{PlacedEntry, entries_by}
 use Rattle.turnstile.specs.declared.view.Terms.{Terms}
-use Rattle.admission.specs.Makers.{entries_by}
 
 -- which turnstile it is, and what stays of the kept value
 pub record TurnstileState : Type 0 where
