@@ -8,8 +8,7 @@ use Rattle.interleave.specs.declared.demux.TheConstants.{MAX_WAITING_BYTES}
 use Rattle.interleave.specs.Elements.{IsFirst}
 use Rattle.interleave.specs.declared.elements.Step.TheVariants.{Request}
 use Rattle.interleave.specs.declared.elements.DemuxFault.{DemuxFault}
-use Rattle.interleave.specs.declared.elements.DemuxFault.TheVariants.{HeadTooLong as LongHead}
-use Rattle.interleave.specs.declared.elements.DemuxFault.TheVariants.{BodyTooLong as LongBody}
+use Rattle.interleave.specs.declared.elements.DemuxFault.TheVariants.{HeadTooLong as LongHead, BodyTooLong as LongBody}
 use Rattle.vod_base.specs.Links.{IoEvent, IsSentPrefix, Sent, HeardBytes, HeardSlot, sends, told_more}
 use Rattle.vod_base.proofs.HistoryLemmas.{told_more-append, told_more-nil}
 use Rattle.vod_base.specs.declared.links.Heard.{Heard}
@@ -62,16 +61,11 @@ noted_on {a} {b} {c} {xs} {ys} first second = record {
       ∙ ap (λ es. a.mine ++ es) (sym (entries_in-append xs ys));
   seat = seat_on a b c first.seat second.seat;
   agree = agree_then
-      (record {
-        terms = terms_of a;
-        journal = b.seen;
+      (record (same_journal (terms_of a) b.seen (length a.seen) (length a.seen) (omega arith)) {
         longer = c.seen;
         prefix = second.seat.longer;
-        low = length a.seen;
-        from = length a.seen;
-        below = omega arith;
-      }) xs ys
-      first.agree (subst (λ terms. AgreeWith terms c.seen (length b.seen) ys) (terms_same a b first.seat) second.agree);
+      }) xs ys first.agree
+      (subst (λ terms. AgreeWith terms c.seen (length b.seen) ys) (terms_same a b first.seat) second.agree);
 }
 
 -- what is noted of a connection agrees with its seat's journal from the beginning
@@ -127,16 +121,7 @@ taken_on {a} {b} {c} first second = record {
 }
 
 lost_on : (a b c : Observed) → HasTaken a b → HasLostReply b c → HasLostReply a c
-lost_on a b c first lost = record {
-  mid = lost.mid;
-  taken = taken_on first lost.taken;
-  message = lost.message;
-  outcome = lost.outcome;
-  front = lost.front;
-  fails = lost.fails;
-  sent = lost.sent;
-  noted = lost.noted;
-}
+lost_on a b c first lost = record { mid = lost.mid; taken = taken_on first lost.taken; lost = lost.lost }
 
 pub up_on : (result : Option ConnEnd) (a b c : Observed) → HasTaken a b → HasProcessedInput result b c →
     HasProcessedInput result a c
@@ -439,19 +424,21 @@ lost_reply {a} x can is told =
     let long : length message ≡ n = length-take-le n a.stage.input in_front.first.2 in record {
       mid = a;
       taken = taken_none a;
-      message = message;
-      outcome = heard.outcome;
-      front = take told.0 asked.text;
-      fails = record {
-        next = next_is a.stage n in_front;
-        answered = asked;
-        heard = heard.heard;
-        can = can;
-        front_is = (told.0, (told.1.0, refl));
-        new_is = is ∙ ap (λ k. stage (record asked { lost = true }) (drop k a.stage.input)) (sym long);
+      lost = record {
+        message = message;
+        outcome = heard.outcome;
+        front = take told.0 asked.text;
+        fails = record {
+          next = next_is a.stage n in_front;
+          answered = asked;
+          heard = heard.heard;
+          can = can;
+          front_is = (told.0, (told.1.0, refl));
+          new_is = is ∙ ap (λ k. stage (record asked { lost = true }) (drop k a.stage.input)) (sym long);
+        };
+        sent = told.1.1;
+        noted = heard.noted;
       };
-      sent = told.1.1;
-      noted = heard.noted;
     }
   where
     open x use {asked, n, in_front, heard}

@@ -23,8 +23,7 @@ use Rattle.station.specs.Bookings.{Booking}
 use Rattle.station.specs.declared.answers.PlayRefused.{PlayRefused}
 use Rattle.station.specs.declared.answers.PlayRefused.TheVariants.{JournalFull, Overflow}
 use Rattle.conn.specs.declared.connections.Connection.{Connection}
-use Rattle.conn.specs.ReservationInvariant.{HasAdvanced, IsHeld, KeepsReservations, open_play_of}
-use Rattle.conn.specs.ReservationInvariant.{reservation_state}
+use Rattle.conn.specs.ReservationInvariant.{HasAdvanced, IsHeld, KeepsReservations, open_play_of, reservation_state}
 use Rattle.conn.specs.Refusals.{after_refusal, refusal_receipt}
 use Rattle.conn.proofs.ReservationSteps.{gone_entry, gone_none, held_none}
 

@@ -13,8 +13,7 @@ use Rattle.admission.specs.declared.entries.Answer.TheVariants.{Admitted, Overfl
 use Rattle.admission.specs.declared.entries.Command.{Command}
 use Rattle.admission.specs.declared.entries.Entry.{Entry}
 use Rattle.admission.specs.Histories.{IsLegal, booked_after, open_count, state_after}
-use Rattle.admission.specs.Machine.{State as MachineState}
-use Rattle.admission.specs.Machine.{IsAnswer}
+use Rattle.admission.specs.Machine.{State as MachineState, IsAnswer}
 use Rattle.admission.specs.Makers.{PlacedEntry}
 use Rattle.station.specs.Ledgers.{play_of}
 use Rattle.session.specs.declared.commands.Ask.{Ask}

@@ -14,10 +14,9 @@ use Rattle.plan_cert.specs.declared.Segment.{Segment}
 use Rattle.plan_cert.specs.PlanSlots.{total_bytes}
 use Rattle.session.specs.SessionStates.{OpenBooking, IsSameBooking, AwaitsNoAnswer, open_of}
 use Rattle.station.specs.Bookings.{Booking}
-use Rattle.conn.specs.ReservationInvariant.{ReservationState, HasAdvanced, IsHeld, entry_receipts, receipt_for}
-use Rattle.conn.specs.ReservationInvariant.{Closed, Broken, open_play_after, open_play_with, open_play_from, open_play_of}
-use Rattle.conn.specs.ReservationInvariant.{IsQuiet}
-use Rattle.conn.specs.ReservationInvariant.{KeepsReservations, reservation_state}
+use Rattle.conn.specs.ReservationInvariant.{ReservationState, HasAdvanced, IsHeld, entry_receipts, receipt_for, Closed}
+use Rattle.conn.specs.ReservationInvariant.{Broken, open_play_after, open_play_with, open_play_from, open_play_of}
+use Rattle.conn.specs.ReservationInvariant.{IsQuiet, KeepsReservations, reservation_state}
 use Rattle.station.specs.Seats.{SeatState}
 use Rattle.station.proofs.SameSeats.{seat_none, seat_on}
 use Rattle.conn.specs.declared.connections.Connection.{Connection}

@@ -24,12 +24,10 @@ use Rattle.session.specs.declared.states.State.{State}
 use Rattle.session.specs.declared.states.State.TheVariants.{Init, Playing, Ready, Stopping}
 use Rattle.session.specs.RequestEffects.{AwaitsNoStop}
 use Rattle.session.specs.RunRequests.{sending_of, playback_of}
-use Rattle.session.specs.RequestSteps.{after_admission, after_halt, counts_done, counts_next, counts_of}
-use Rattle.session.specs.RequestSteps.{halted_counts}
+use Rattle.session.specs.RequestSteps.{after_admission, after_halt, counts_done, counts_next, counts_of, halted_counts}
 use Rattle.film_streams.specs.SettingRanges.{IsSetup}
-use Rattle.session.specs.SlotSteps.{after_play, after_slot, can_reply, halted_in, halted_notes, is_between}
-use Rattle.session.specs.SlotSteps.{is_sending, kept_of, next_of, note_of, sent_due, sent_reply, state_once_halted}
-use Rattle.session.specs.SlotSteps.{stepped_in}
+use Rattle.session.specs.SlotSteps.{after_play, after_slot, can_reply, halted_in, halted_notes, is_between, is_sending}
+use Rattle.session.specs.SlotSteps.{kept_of, next_of, note_of, sent_due, sent_reply, state_once_halted, stepped_in}
 use Rattle.session.specs.SessionStates.{AwaitedAnswer, SessionState}
 use Rattle.session.specs.SlotTransitions.{after_stop}
 use Rattle.conn.specs.InputSteps.{Outcome, Entered, Stage, ElementStep, Passed, Answered, IsPlayAnswered}

@@ -11,8 +11,7 @@ use Rattle.station.specs.Ledgers.{play_of}
 use Rattle.session.specs.declared.commands.Ask.{Ask}
 use Rattle.session.specs.declared.commands.Ask.TheVariants.{Reply as AskReply, Play as AskPlay, Halt as AskHalt}
 use Rattle.session.specs.declared.commands.Ask.TheVariants.{Look as AskLook, Offer as AskOffer}
-use Rattle.session.specs.RequestSteps.{after_admission, after_full, after_halt, after_look, after_offer}
-use Rattle.session.specs.RequestSteps.{after_overflow}
+use Rattle.session.specs.RequestSteps.{after_admission, after_full, after_halt, after_look, after_offer, after_overflow}
 use Rattle.session.specs.SlotSteps.{after_slot}
 use Rattle.session.specs.SessionStates.{AwaitedAnswer, NoAnswer, HaltAnswer, SessionState, awaited_answer}
 use Rattle.session_records.specs.declared.notes.OfferNote.{OfferNote}

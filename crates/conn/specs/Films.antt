@@ -22,8 +22,7 @@ use Rattle.station.specs.Ledgers.{play_of}
 use Rattle.rtsp_replies.specs.Replies.{overflow_text}
 use Rattle.session.specs.SessionStates.{SessionState, sequence_of}
 use Rattle.conn.specs.InputSteps.{Outcome, Unasked, Entered, WasFull, Offered, SentPart, Film, Text}
-use Rattle.conn.specs.InputSteps.{Stage}
-use Rattle.conn.specs.InputSteps.{ElementStep, Passed, Answered, TakesAll, film_bytes}
+use Rattle.conn.specs.InputSteps.{Stage, ElementStep, Passed, Answered, TakesAll, film_bytes}
 use Rattle.conn.specs.EventSteps.{Round, RunsAll, rounds_outcomes, takings_outcomes}
 
 -- the bytes that a plan sends up to the end of a slot, of frames and reports from a place on

@@ -17,8 +17,7 @@ use Rattle.session_records.specs.declared.notes.OfferNote.{OfferNote}
 use Rattle.session.specs.RequestSteps.{Halts, Hears, after_admission, after_full, after_look}
 use Rattle.session.specs.RequestSteps.{after_offer, after_overflow}
 use Rattle.session.specs.SlotSteps.{after_slot, can_reply, is_between, is_sending, is_taken}
-use Rattle.session.specs.SlotSteps.{sent_reply}
-use Rattle.session.specs.SlotSteps.{step_bytes, stepped_in}
+use Rattle.session.specs.SlotSteps.{sent_reply, step_bytes, stepped_in}
 use Rattle.session.specs.SlotTransitions.{IsPlayIn}
 use Rattle.session.specs.SessionStates.{AwaitedAnswer, HaltAnswer, NoAnswer, OpenBooking}
 use Rattle.session.specs.SessionStates.{SessionState, awaited_answer}

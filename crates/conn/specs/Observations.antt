@@ -63,16 +63,21 @@ pub record HasTaken (old new : Observed) : Type 0 where
   pub sent : IsSent old.told (takings_bytes takings) new.told
   pub noted : AreNoted old.seat new.seat (takings_outcomes takings)
 
+-- a request's reply couldn't be sent
+pub record LosesReply (old new : Observed) : Type 0 where
+  pub message : List ℕ
+  pub outcome : Outcome
+  pub front : List ℕ
+  pub fails : HasFailedInReply old.stage message outcome front new.stage
+  pub sent : IsSent old.told front new.told
+  pub noted : AreNoted old.seat new.seat (outcome ∷ [])
+
 -- elements were processed, and then a request's reply couldn't be sent
 pub record HasLostReply (old new : Observed) : Type 0 where
   pub mid : Observed
   pub taken : HasTaken old mid
-  pub message : List ℕ
-  pub outcome : Outcome
-  pub front : List ℕ
-  pub fails : HasFailedInReply mid.stage message outcome front new.stage
-  pub sent : IsSent mid.told front new.told
-  pub noted : AreNoted mid.seat new.seat (outcome ∷ [])
+  pub lost : LosesReply mid new
+  pub open lost use *
 
 -- elements were processed until nothing more can be, or until the connection ended, for this cause
 abbrev pub HasProcessedInput : Option ConnEnd → Observed → Observed → Type 0

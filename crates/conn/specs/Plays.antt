@@ -19,14 +19,12 @@ use Rattle.film_streams.specs.declared.setups.Setup.{Setup}
 use Rattle.session.specs.declared.states.State.{State}
 use Rattle.session.specs.declared.states.State.TheVariants.{Init, Playing, Ready, Stopping}
 use Rattle.session.specs.declared.states.Stop.{Stop}
-use Rattle.session.specs.RunRequests.{sending_of}
+use Rattle.session.specs.RunRequests.{sending_of, playback_of}
 use Rattle.film_streams.specs.Films.{IsFilmAt}
-use Rattle.session.specs.RunRequests.{playback_of}
 use Rattle.session.specs.SlotSteps.{is_sending, note_of}
 use Rattle.session.specs.SessionStates.{SessionState, last_heard_slot}
 use Rattle.conn.specs.InputSteps.{Outcome, Unasked, Entered, WasFull, Offered, Stage, ElementStep}
-use Rattle.conn.specs.InputSteps.{Passed}
-use Rattle.conn.specs.InputSteps.{Answered, film_bytes, stage}
+use Rattle.conn.specs.InputSteps.{Passed, Answered, film_bytes, stage}
 use Rattle.conn.specs.EventSteps.{Comes, Ending, Unheard, PeerEnded, Overfull, AtElement, InSlot}
 use Rattle.conn.specs.EventSteps.{InReply, Round, RunsAll}
 use Rattle.conn.specs.Films.{IsBetween}

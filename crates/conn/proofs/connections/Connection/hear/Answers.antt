@@ -69,23 +69,31 @@ returns-else-is_err-clause-comes g c =
       noted = noted_unasked here.seat;
     }) c.process_input.result after c.process_input.ensures.up)
 
-pub returns-else-is_err-2-clause-comes : goal.returns-else-is_err-2-clause-comes
-returns-else-is_err-2-clause-comes g c =
+pub returns-else-is_err-2 : goal.returns-else-is_err-2
+returns-else-is_err-2 g c =
     let here : Observed = observed c.args.self.now (g.K.Link.told c.args.link.now) c.args.seat.now in
     let mid : Observed = observed c.step.new.self (g.K.Link.told c.step.new.link) c.step.new.seat in
     let after : Observed = observed c.process_input-in-Slot.new.self
     (g.K.Link.told c.process_input-in-Slot.new.link) c.process_input-in-Slot.new.seat in
     let passed : HasTakenSlot here mid c.in-Slot.slot = search rules in
-    subst (λ (h : Heard). HasHandledEvent c.process_input-in-Slot.result (io_event_of h c.args.bytes.now) here after)
-    (sym c.in-Slot.is)
-    (event_up {a = here} (record {
-      opened = mid;
-      due = passed.parts;
-      halt = passed.halt;
-      comes = (passed.input, passed.stepped);
-      sent = passed.sent;
-      noted = passed.noted;
-    }) c.process_input-in-Slot.result after c.process_input-in-Slot.ensures.up)
+    let done = c.process_input-in-Slot.ensures in
+    record {
+      kept = kept_on c.step.ensures.kept done.kept;
+      comes = subst
+          (λ (h : Heard). HasHandledEvent c.process_input-in-Slot.result (io_event_of h c.args.bytes.now) here after)
+          (sym c.in-Slot.is)
+          (event_up {a = here} (record {
+            opened = mid;
+            due = passed.parts;
+            halt = passed.halt;
+            comes = (passed.input, passed.stepped);
+            sent = passed.sent;
+            noted = passed.noted;
+          }) c.process_input-in-Slot.result after done.up);
+      cut = rw (c.in-Slot.is, ← c.step.ensures.input) done.cut;
+      taken = rw c.in-Slot.is done.taken;
+      counted = counted_on c.step.ensures.count done.counted;
+    }
 
 pub returns-in-End-clause-kept : goal.returns-in-End-clause-kept
 returns-in-End-clause-kept g c = kept_none c.args.seat.now c.args.self.now c.requires.quiet
@@ -101,28 +109,13 @@ returns-else-is_err-clause-kept g c =
 pub returns-then-is_err-2-clause-kept : goal.returns-then-is_err-2-clause-kept
 returns-then-is_err-2-clause-kept g c = c.step.ensures.kept
 
-pub returns-else-is_err-2-clause-kept : goal.returns-else-is_err-2-clause-kept
-returns-else-is_err-2-clause-kept g c = kept_on c.step.ensures.kept c.process_input-in-Slot.ensures.kept
-
 pub returns-then-is_err-2-clause-cut : goal.returns-then-is_err-2-clause-cut
 returns-then-is_err-2-clause-cut g c =
     rw c.in-Slot.is (cuts_same c.args.self.now.input c.step.new.self.input c.step.ensures.input)
-
-pub returns-else-is_err-2-clause-cut : goal.returns-else-is_err-2-clause-cut
-returns-else-is_err-2-clause-cut g c =
-    rw (c.in-Slot.is, ← c.step.ensures.input) c.process_input-in-Slot.ensures.cut
 
 pub returns-then-is_err-2-clause-taken : goal.returns-then-is_err-2-clause-taken
 returns-then-is_err-2-clause-taken g c =
     rw c.in-Slot.is tt
 
-pub returns-else-is_err-2-clause-taken : goal.returns-else-is_err-2-clause-taken
-returns-else-is_err-2-clause-taken g c =
-    rw c.in-Slot.is c.process_input-in-Slot.ensures.taken
-
 pub returns-else-is_err-clause-counted : goal.returns-else-is_err-clause-counted
 returns-else-is_err-clause-counted g c = c.process_input.ensures.counted
-
-pub returns-else-is_err-2-clause-counted : goal.returns-else-is_err-2-clause-counted
-returns-else-is_err-2-clause-counted g c =
-    counted_on c.step.ensures.count c.process_input-in-Slot.ensures.counted

@@ -10,66 +10,72 @@ use Rattle.conn.specs.Observations.{HasTaken, Observed, TakesNext, observed}
 use Rattle.conn.proofs.CourseSteps.{fault_ends, input_is, taken_fault, taken_passed}
 use Rattle.conn.proofs.connections.Connection.process_next.Goals as goal
 
-pub returns-in-Ok-Skip-clause-cut : goal.returns-in-Ok-Skip-clause-cut
-returns-in-Ok-Skip-clause-cut g c =
-    cuts_drop (Skip c.in-Ok-Skip.count) (first_is c.in-Ok-Skip.ensures.first refl c.in-Ok-Skip.field-0-is)
-    (drop_is c.in-Ok-Skip.count c.drop_front.ensures c.look.ensures.waiting)
+pub returns-in-Ok-Skip : goal.returns-in-Ok-Skip
+returns-in-Ok-Skip g c =
+    let here = c.args.self.now in
+    let n = c.in-Ok-Skip.count in
+    let first : IsFirst here.input (Ok (Skip n)) = first_is c.in-Ok-Skip.ensures.first refl c.in-Ok-Skip.field-0-is in
+    let gone = drop_is n c.drop_front.ensures c.look.ensures.waiting in
+    record {
+      kept = kept_moved c.args.seat.now here c.drop_front.new.self c.requires.quiet;
+      takes = taken_passed n (inl first) (search rules)
+          (input_is here (g.K.Link.told c.args.link.now) c.args.seat.now gone);
+      cut = cuts_drop (Skip n) first gone;
+      taken = (c.requires.lost, fewer here.input c.drop_front.new.self n first.0 first.1.within gone);
+      counted = counted_none (g.K.Link.faults c.args.link.now);
+    }
 
-pub returns-in-Ok-Block-clause-cut : goal.returns-in-Ok-Block-clause-cut
-returns-in-Ok-Block-clause-cut g c =
-    cuts_drop (Block c.in-Ok-Block.field-0-0 c.in-Ok-Block.count)
-    (first_is c.in-Ok-Block.ensures.first refl c.in-Ok-Block.field-0-is)
-    (drop_is c.in-Ok-Block.count c.drop_front-in-Ok-Block.ensures c.look.ensures.waiting)
+pub returns-in-Ok-Block : goal.returns-in-Ok-Block
+returns-in-Ok-Block g c =
+    let here = c.args.self.now in
+    let channel = c.in-Ok-Block.field-0-0 in
+    let n = c.in-Ok-Block.count in
+    let left = c.drop_front-in-Ok-Block.new.self in
+    let first : IsFirst here.input (Ok (Block channel n)) =
+    first_is c.in-Ok-Block.ensures.first refl c.in-Ok-Block.field-0-is in
+    let gone = drop_is n c.drop_front-in-Ok-Block.ensures c.look.ensures.waiting in
+    record {
+      kept = kept_moved c.args.seat.now here left c.requires.quiet;
+      takes = taken_passed n (inr (channel, first)) (search rules)
+          (input_is here (g.K.Link.told c.args.link.now) c.args.seat.now gone);
+      cut = cuts_drop (Block channel n) first gone;
+      taken = (
+        c.requires.lost,
+        fewer here.input left n (subst (λ k. 0 < k) (sym first.3) (omega arith)) first.4 gone,
+      );
+      counted = counted_none (g.K.Link.faults c.args.link.now);
+    }
 
-pub returns-in-Ok-Request-clause-cut : goal.returns-in-Ok-Request-clause-cut
-returns-in-Ok-Request-clause-cut g c =
-    rw c.look.ensures.waiting at c.process_request.ensures.cut
+pub returns-in-Ok-More : goal.returns-in-Ok-More
+returns-in-Ok-More g c =
+    let waiting = c.look.ensures.waiting in
+    let first = first_is c.in-Ok-More.ensures.first waiting c.in-Ok-More.field-0-is in
+    record {
+      kept = kept_moved c.args.seat.now c.args.self.now c.look.new.self c.requires.quiet;
+      takes = (
+        input_is c.args.self.now (g.K.Link.told c.args.link.now) c.args.seat.now waiting,
+        record { torn = search rules; waits = inl first },
+      );
+      cut = cuts_same c.args.self.now.input c.look.new.self waiting;
+      taken = (search rules, c.requires.lost, inl first);
+      counted = counted_none (g.K.Link.faults c.args.link.now);
+    }
 
-pub returns-in-Ok-More-clause-taken : goal.returns-in-Ok-More-clause-taken
-returns-in-Ok-More-clause-taken g c = (
-  search rules,
-  c.requires.lost,
-  inl (first_is c.in-Ok-More.ensures.first c.look.ensures.waiting c.in-Ok-More.field-0-is),
-)
-
-pub returns-in-Ok-Request-clause-taken : goal.returns-in-Ok-Request-clause-taken
-returns-in-Ok-Request-clause-taken g c =
-    rw c.look.ensures.waiting at c.process_request.ensures.taken
-
-pub returns-in-Ok-More-clause-takes : goal.returns-in-Ok-More-clause-takes
-returns-in-Ok-More-clause-takes g c = (
-  input_is c.args.self.now (g.K.Link.told c.args.link.now) c.args.seat.now c.look.ensures.waiting,
-  record {
-    torn = search rules;
-    waits = inl (first_is c.in-Ok-More.ensures.first c.look.ensures.waiting c.in-Ok-More.field-0-is);
-  },
-)
-
-pub returns-in-Ok-Skip-clause-takes : goal.returns-in-Ok-Skip-clause-takes
-returns-in-Ok-Skip-clause-takes g c =
-    taken_passed c.in-Ok-Skip.count
-    (inl (first_is c.in-Ok-Skip.ensures.first refl c.in-Ok-Skip.field-0-is)) (search rules)
-    (input_is c.args.self.now (g.K.Link.told c.args.link.now) c.args.seat.now (drop_is c.in-Ok-Skip.count c.drop_front.ensures c.look.ensures.waiting))
-
-pub returns-in-Ok-Block-clause-takes : goal.returns-in-Ok-Block-clause-takes
-returns-in-Ok-Block-clause-takes g c =
-    taken_passed c.in-Ok-Block.count
-    (inr (c.in-Ok-Block.field-0-0, first_is c.in-Ok-Block.ensures.first refl c.in-Ok-Block.field-0-is)) (search rules)
-    (input_is c.args.self.now (g.K.Link.told c.args.link.now) c.args.seat.now (drop_is c.in-Ok-Block.count c.drop_front-in-Ok-Block.ensures c.look.ensures.waiting))
-
-pub returns-in-Ok-Request-clause-takes : goal.returns-in-Ok-Request-clause-takes
-returns-in-Ok-Request-clause-takes g c =
-    subst (λ (i : List ℕ). TakesNext c.process_request.result
-    (observed (record c.args.self.now { input = i })
-    (g.K.Link.told c.args.link.now) c.args.seat.now)
-    (observed c.process_request.new.self (g.K.Link.told c.process_request.new.link) c.process_request.new.seat))
-    c.look.ensures.waiting c.process_request.ensures.takes
-
-pub returns-in-Ok-Request-clause-kept : goal.returns-in-Ok-Request-clause-kept
-returns-in-Ok-Request-clause-kept g c = record {
-  seat = c.process_request.ensures.kept.seat;
-  quiet = c.process_request.ensures.kept.quiet;
-  gone = c.process_request.ensures.kept.gone;
+pub returns-in-Ok-Request : goal.returns-in-Ok-Request
+returns-in-Ok-Request g c = record {
+  kept = record {
+    seat = c.process_request.ensures.kept.seat;
+    quiet = c.process_request.ensures.kept.quiet;
+    gone = c.process_request.ensures.kept.gone;
+  };
+  takes = subst (λ (i : List ℕ). TakesNext c.process_request.result
+      (observed (record c.args.self.now { input = i })
+      (g.K.Link.told c.args.link.now) c.args.seat.now)
+      (observed c.process_request.new.self (g.K.Link.told c.process_request.new.link) c.process_request.new.seat))
+      c.look.ensures.waiting c.process_request.ensures.takes;
+  cut = rw c.look.ensures.waiting at c.process_request.ensures.cut;
+  taken = rw c.look.ensures.waiting at c.process_request.ensures.taken;
+  counted = c.process_request.ensures.counted;
 }
 
 pub process_request-requires-clause-first : goal.process_request-requires-clause-first
@@ -83,30 +89,11 @@ returns-in-Err-clause-takes g c =
     (sym (input_is c.args.self.now (g.K.Link.told c.args.link.now) c.args.seat.now c.look.ensures.waiting))
     (taken_fault c.in-Err.fault c.end_of.result (search rules) c.in-Err.ensures.first c.end_of.ensures))
 
-pub returns-then-torn-clause-kept : goal.returns-then-torn-clause-kept
-returns-then-torn-clause-kept g c = kept_none c.args.seat.now c.args.self.now c.requires.quiet
-
 pub returns-in-Err-clause-kept : goal.returns-in-Err-clause-kept
 returns-in-Err-clause-kept g c = kept_moved c.args.seat.now c.args.self.now c.look.new.self c.requires.quiet
 
-pub returns-in-Ok-More-clause-kept : goal.returns-in-Ok-More-clause-kept
-returns-in-Ok-More-clause-kept g c = kept_moved c.args.seat.now c.args.self.now c.look.new.self c.requires.quiet
-
-pub returns-in-Ok-Skip-clause-kept : goal.returns-in-Ok-Skip-clause-kept
-returns-in-Ok-Skip-clause-kept g c = kept_moved c.args.seat.now c.args.self.now c.drop_front.new.self c.requires.quiet
-
-pub returns-in-Ok-Block-clause-kept : goal.returns-in-Ok-Block-clause-kept
-returns-in-Ok-Block-clause-kept g c =
-    kept_moved c.args.seat.now c.args.self.now c.drop_front-in-Ok-Block.new.self c.requires.quiet
-
-pub returns-then-torn-clause-cut : goal.returns-then-torn-clause-cut
-returns-then-torn-clause-cut g c = cuts_none c.args.self.now.input
-
 pub returns-in-Err-clause-cut : goal.returns-in-Err-clause-cut
 returns-in-Err-clause-cut g c = cuts_same c.args.self.now.input c.look.new.self c.look.ensures.waiting
-
-pub returns-in-Ok-More-clause-cut : goal.returns-in-Ok-More-clause-cut
-returns-in-Ok-More-clause-cut g c = cuts_same c.args.self.now.input c.look.new.self c.look.ensures.waiting
 
 pub returns-in-Err-clause-taken : goal.returns-in-Err-clause-taken
 returns-in-Err-clause-taken g c =
@@ -114,34 +101,8 @@ returns-in-Err-clause-taken g c =
     (record c.args.self.now { input = c.look.new.self })
     c.end_of.ensures (subst (λ (i : List ℕ). IsFirst i (Err c.in-Err.fault)) (sym c.look.ensures.waiting) c.in-Err.ensures.first)
 
-pub returns-in-Ok-Skip-clause-taken : goal.returns-in-Ok-Skip-clause-taken
-returns-in-Ok-Skip-clause-taken g c =
-    let first : IsFirst c.args.self.now.input (Ok (Skip c.in-Ok-Skip.count)) =
-    first_is c.in-Ok-Skip.ensures.first refl c.in-Ok-Skip.field-0-is in
-    let some : 0 < c.in-Ok-Skip.count = first.0 in (
-      c.requires.lost,
-      fewer c.args.self.now.input c.drop_front.new.self c.in-Ok-Skip.count some first.1.within
-          (drop_is c.in-Ok-Skip.count c.drop_front.ensures c.look.ensures.waiting),
-    )
+pub returns-then-torn-clause-kept : goal.returns-then-torn-clause-kept
+returns-then-torn-clause-kept g c = kept_none c.args.seat.now c.args.self.now c.requires.quiet
 
-pub returns-in-Ok-Block-clause-taken : goal.returns-in-Ok-Block-clause-taken
-returns-in-Ok-Block-clause-taken g c =
-    let first : IsFirst c.args.self.now.input (Ok (Block c.in-Ok-Block.field-0-0 c.in-Ok-Block.count)) =
-    first_is c.in-Ok-Block.ensures.first refl c.in-Ok-Block.field-0-is in
-    let some : 0 < c.in-Ok-Block.count = subst (λ n. 0 < n) (sym first.3) (omega arith) in (
-      c.requires.lost,
-      fewer c.args.self.now.input c.drop_front-in-Ok-Block.new.self c.in-Ok-Block.count some first.4
-          (drop_is c.in-Ok-Block.count c.drop_front-in-Ok-Block.ensures c.look.ensures.waiting),
-    )
-
-pub returns-in-Ok-Skip-clause-counted : goal.returns-in-Ok-Skip-clause-counted
-returns-in-Ok-Skip-clause-counted g c = counted_none (g.K.Link.faults c.args.link.now)
-
-pub returns-in-Ok-Block-clause-counted : goal.returns-in-Ok-Block-clause-counted
-returns-in-Ok-Block-clause-counted g c = counted_none (g.K.Link.faults c.args.link.now)
-
-pub returns-in-Ok-More-clause-counted : goal.returns-in-Ok-More-clause-counted
-returns-in-Ok-More-clause-counted g c = counted_none (g.K.Link.faults c.args.link.now)
-
-pub returns-in-Ok-Request-clause-counted : goal.returns-in-Ok-Request-clause-counted
-returns-in-Ok-Request-clause-counted g c = c.process_request.ensures.counted
+pub returns-then-torn-clause-cut : goal.returns-then-torn-clause-cut
+returns-then-torn-clause-cut g c = cuts_none c.args.self.now.input

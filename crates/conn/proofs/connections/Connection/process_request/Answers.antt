@@ -33,6 +33,15 @@ kept g c =
       opens = still_open _ _ c.reply.ensures.open;
     })
 
+pub returns-then-waits : goal.returns-then-waits
+returns-then-waits g c = record {
+  kept = kept_none c.args.seat.now c.args.self.now c.requires.quiet;
+  takes = (refl, record { torn = c.requires.torn; waits = inr (c.args.length, (c.requires.first, search rules)) });
+  cut = cuts_none c.args.self.now.input;
+  taken = (c.requires.torn, c.requires.lost, inr (c.args.length, (c.requires.first, search rules)));
+  counted = counted_none (g.K.Link.faults c.args.link.now);
+}
+
 pub returns-in-Ok-clause-cut : goal.returns-in-Ok-clause-cut
 returns-in-Ok-clause-cut g c =
     cuts_drop (Request c.args.length) c.requires.first c.answer_request.ensures.input
@@ -40,14 +49,6 @@ returns-in-Ok-clause-cut g c =
 pub returns-in-Err-clause-cut : goal.returns-in-Err-clause-cut
 returns-in-Err-clause-cut g c =
     cuts_drop (Request c.args.length) c.requires.first c.answer_request.ensures.input
-
-pub returns-then-waits-clause-taken : goal.returns-then-waits-clause-taken
-returns-then-waits-clause-taken g c =
-    (c.requires.torn, c.requires.lost, inr (c.args.length, (c.requires.first, search rules)))
-
-pub returns-then-waits-clause-takes : goal.returns-then-waits-clause-takes
-returns-then-waits-clause-takes g c =
-    (refl, record { torn = c.requires.torn; waits = inr (c.args.length, (c.requires.first, search rules)) })
 
 pub returns-in-Ok-clause-taken : goal.returns-in-Ok-clause-taken
 returns-in-Ok-clause-taken g c = (
@@ -70,20 +71,11 @@ returns-in-Err-clause-takes g c =
           (stage_is c.in-Err.ensures.failed c.answer_request.ensures.input) c.in-Err.ensures.front,
     )
 
-pub returns-then-waits-clause-kept : goal.returns-then-waits-clause-kept
-returns-then-waits-clause-kept g c = kept_none c.args.seat.now c.args.self.now c.requires.quiet
-
 pub returns-in-Ok-clause-kept : goal.returns-in-Ok-clause-kept
 returns-in-Ok-clause-kept g c = kept g (goal.at.returns-in-Ok-clause-kept g c).After-reply
 
 pub returns-in-Err-clause-kept : goal.returns-in-Err-clause-kept
 returns-in-Err-clause-kept g c = kept g (goal.at.returns-in-Err-clause-kept g c).After-reply
-
-pub returns-then-waits-clause-cut : goal.returns-then-waits-clause-cut
-returns-then-waits-clause-cut g c = cuts_none c.args.self.now.input
-
-pub returns-then-waits-clause-counted : goal.returns-then-waits-clause-counted
-returns-then-waits-clause-counted g c = counted_none (g.K.Link.faults c.args.link.now)
 
 pub returns-in-Err-clause-counted : goal.returns-in-Err-clause-counted
 returns-in-Err-clause-counted g c =
