@@ -1,18 +1,18 @@
 -- Which units a PLAY sends, and by which plan (RFC 2326 sections 10.5 and 12.29).
-use Rattle.std.specs.Prelude.{ℕ, ◌≡◌, ◌+◌, List, Option, Some, None}
+use Rattle.std.specs.Prelude.{ℕ, ◌≡◌, ◌+◌, true, length, string_bytes, List, Option, Some, None}
 use Rattle.plan_cert.specs.declared.Segment.{Segment}
 use Rattle.plan_cert.specs.PlanSlots.{total_bytes}
 use Rattle.mpeg_scan.specs.PictureRates.{picture_time}
 use Rattle.mpeg_scan.specs.declared.films.Film.{Film}
 use Rattle.film_frames.specs.declared.stored_films.Stored.{Stored}
-use Rattle.film_frames.specs.Tracks.{IsBoundary}
+use Rattle.film_frames.specs.Tracks.{IsBoundary, framed_bytes}
 use Rattle.film_frames.specs.FramedRuns.{FramedRun, run_pieces, run_of as framed_run}
 use Rattle.film_run.specs.declared.plans.Playback.{Playback}
 use Rattle.film_run.specs.declared.runs.Run.{Run}
 use Rattle.film_run.specs.Plans.{IsPlanOf}
 use Rattle.film_run.specs.Runs.{Fits, IsRun, bytes_between}
 use Rattle.film_run.specs.Seeks.{HasNothing, IsRequestedRange}
-use Rattle.film_run.specs.Units.{stored_sizes}
+use Rattle.film_run.specs.Units.{AreUnitSizes, stored_sizes}
 use Rattle.rtsp_fields.specs.Ranges.{IsSpan}
 use Rattle.rtsp_fields.specs.declared.ranges.Origin.{Origin}
 use Rattle.rtsp_fields.specs.declared.ranges.Origin.TheVariants.{Now, At}
@@ -23,12 +23,26 @@ use Rattle.film_streams.specs.declared.setups.Setup.{Setup}
 use Rattle.film_streams.specs.declared.stream_numbers.StreamSource.{StreamSource}
 use Rattle.session.specs.declared.play_requests.PlayRequest.{PlayRequest}
 use Rattle.session.specs.declared.play_requests.PlayRequest.TheVariants.{Resumed, New}
+use Rattle.film_streams.specs.Films.{IsFilmAt}
+use Rattle.vod_base.specs.Names.{good_name}
 use Rattle.film_streams.specs.StreamNumbers.{counts_after, identity_of}
 
 -- a run as it is sent
 abbrev pub sending_of : Film → StreamSource → Setup → Counts → Run → FramedRun
 sending_of film source setup counts run =
     framed_run film run.first_unit run.end_unit (identity_of source setup counts)
+
+-- the frames and reports of a run have as many bytes as its plan is made of
+abbrev pub HasPlannedBytes : FramedRun → Stored → Run → Type 0
+HasPlannedBytes frames stored run =
+    length (framed_bytes (run_pieces frames))
+    ≡ bytes_between (stored_sizes stored) run.first_unit run.end_unit
+
+-- the film of that number: its name is good, and its units are those of a trace
+pub record IsStoredAt (films : List Stored) (number : ℕ) (stored : Stored) : Type 0 where
+  pub film : IsFilmAt films number stored
+  pub good : good_name (string_bytes stored.name) ≡ true
+  pub sizes : AreUnitSizes (stored_sizes stored)
 
 -- the span of play that a Range gives; from now on, where there is none
 abbrev pub IsSpanOf : Option (List ℕ) → Span → Type 0

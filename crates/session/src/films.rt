@@ -1,14 +1,9 @@
 //! The films of a session, and the frames that are sent of them.
 
-ghost use Rattle.std.specs.Prelude.{◌≡◌, ◌<◌, ◌≤◌, true, length, string_bytes};
-ghost use Rattle.vod_base.specs.Names.{good_name};
-ghost use Rattle.film_frames.specs.FramedRuns.{run_pieces};
-ghost use Rattle.film_frames.specs.Tracks.{framed_bytes};
-ghost use Rattle.film_run.specs.Runs.{bytes_between};
-ghost use Rattle.film_run.specs.Units.{AreUnitSizes, stored_sizes};
-ghost use Rattle.film_streams.specs.Films.{IsFilmAt};
+ghost use Rattle.std.specs.Prelude.{◌≡◌, ◌<◌, ◌≤◌, length};
+ghost use Rattle.film_run.specs.Units.{stored_sizes};
 ghost use Rattle.film_streams.specs.SettingRanges.{AreFilms};
-ghost use Rattle.session.specs.RunRequests.{sending_of};
+ghost use Rattle.session.specs.RunRequests.{HasPlannedBytes, IsStoredAt, sending_of};
 
 use film_frames::laws::{law_frame_and_report_sizes_are_exact, law_wire_size_of_film_is_bounded};
 use film_frames::{Frames, Stored};
@@ -20,9 +15,7 @@ use mpeg_scan::laws::law_film_is_well_formed;
 pub(crate) fn stored_at(films: &[Stored], film: usize) -> &Stored
     requires films { AreFilms films.now }
     requires within { film < length films.now }
-    ensures film { IsFilmAt films.now film result.now }
-    ensures good { good_name (string_bytes result.now.name) ≡ true }
-    ensures sizes { AreUnitSizes (stored_sizes result.now) }
+    ensures { IsStoredAt films.now film result.now }
 {
     let stored = &films[film];
     // Both laws bound the sizes of the film's units, which the contract states.
@@ -42,8 +35,7 @@ pub(crate) fn frames_of<'a>(
     requires order { run.now.first_unit < run.now.end_unit }
     requires within { run.now.end_unit ≤ length (stored_sizes stored.now) }
     ensures frames { result ≡ sending_of stored.now.film source setup.now counts run.now }
-    ensures bytes { length (framed_bytes (run_pieces result))
-        ≡ bytes_between (stored_sizes stored.now) run.now.first_unit run.now.end_unit }
+    ensures bytes { HasPlannedBytes result stored.now run.now }
 {
     let identity = identity_of(source, setup, counts);
     // The law ties the sizes of the pieces to the sizes of which the plan was made.

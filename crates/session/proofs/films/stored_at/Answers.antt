@@ -7,25 +7,22 @@ use Rattle.film_frames.specs.declared.stored_films.Stored.{Stored}
 use Rattle.film_frames.specs.Pieces.{wire_size}
 use Rattle.session.proofs.films.stored_at.Goals as goal
 
-pub returns-clause-good : goal.returns-clause-good
-returns-clause-good c =
+pub returns : goal.returns
+returns c =
     let IsGood : Stored → Type 0 = λ film. good_name (string_bytes film.name) ≡ true in
-    subst IsGood (sym c.index-films-film.is)
-    (All-get_or IsGood c.args.films.now c.args.film c.index-films-film.result c.requires.within c.requires.films.good)
-
-pub returns-clause-film : goal.returns-clause-film
-returns-clause-film c =
-    slice_get_read c.args.films.now
-    (length c.args.films.now) c.args.film c.index-films-film.result refl c.requires.within
-    c.index-films-film.is
-
-pub returns-clause-sizes : goal.returns-clause-sizes
-returns-clause-sizes c =
-    let film = c.index-films-film.result.film in record {
-      few = omega (
-        arith,
-        c.law_film_is_well_formed.ensures.units,
-        length-map film.units.items (wire_size film.slice_starts.items),
-      );
-      small = c.law_wire_size_of_film_is_bounded.ensures.all film;
+    let film = c.index-films-film.result.film in
+    record {
+      film = slice_get_read c.args.films.now (length c.args.films.now) c.args.film c.index-films-film.result refl
+          c.requires.within c.index-films-film.is;
+      good = subst IsGood (sym c.index-films-film.is)
+          (All-get_or IsGood c.args.films.now c.args.film c.index-films-film.result c.requires.within
+          c.requires.films.good);
+      sizes = record {
+        few = omega (
+          arith,
+          c.law_film_is_well_formed.ensures.units,
+          length-map film.units.items (wire_size film.slice_starts.items),
+        );
+        small = c.law_wire_size_of_film_is_bounded.ensures.all film;
+      };
     }
