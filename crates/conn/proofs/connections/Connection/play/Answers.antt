@@ -5,7 +5,8 @@ use Rattle.station.specs.Ledgers.{play_of}
 use Rattle.session_records.specs.declared.notes.Receipt.TheVariants.{Entry}
 use Rattle.session.specs.RequestSteps.{after_admission}
 use Rattle.session.specs.SessionStates.{IsAnswerRecorded, awaited_answer, booking_of}
-use Rattle.conn.proofs.Outcomes.{IsAsking, answered_admitted, answered_refused, kept_admitted, kept_refused}
+use Rattle.conn.specs.declared.connections.Connection.{Connection}
+use Rattle.conn.proofs.Outcomes.{IsAsking, StationCall, answered_admitted, answered_refused, kept_admitted, kept_refused}
 use Rattle.conn.proofs.connections.Connection.play.Goals as goal
 use Rattle.conn.proofs.connections.Connection.play.Goals.{After-play}
 
@@ -16,6 +17,10 @@ asking g c = record {
   held = c.requires.held;
   closed = c.requires.closed;
 }
+
+-- the call, which leaves the connection so
+abbrev call : (g : _) (c : After-play g) → Connection → StationCall
+call g c after = record { seat = c.args.seat.now; next = c.play.new.seat; before = c.args.self.now; after = after }
 
 pub returns-in-Ok-clause-kept : goal.returns-in-Ok-clause-kept
 returns-in-Ok-clause-kept g c =
@@ -46,12 +51,8 @@ returns-in-Err-clause-kept g c =
 
 pub returns-in-Ok-clause-answered : goal.returns-in-Ok-clause-answered
 returns-in-Ok-clause-answered g c =
-    answered_admitted (record {
-      seat = c.args.seat.now;
-      next = c.play.new.seat;
-      before = c.args.self.now;
-      after = record c.args.self.now { session = c.admitted.new.self };
-    }) (asking g (goal.at.returns-in-Ok-clause-answered g c).After-play)
+    let at = (goal.at.returns-in-Ok-clause-answered g c).After-play in
+    answered_admitted (call g at (record c.args.self.now { session = c.admitted.new.self })) (asking g at)
     (subst (λ heard. HasMadeEntry c.args.seat.now c.play.new.seat 2 (play_of heard c.args.plan)
     c.in-Ok.booking.number (Admitted c.in-Ok.booking.start)) c.heard_slot.ensures.slot c.in-Ok.ensures.made) (record {
       later = search rules;
@@ -64,11 +65,7 @@ returns-in-Ok-clause-answered g c =
 
 pub returns-in-Err-clause-answered : goal.returns-in-Err-clause-answered
 returns-in-Err-clause-answered g c =
-    answered_refused (record {
-      seat = c.args.seat.now;
-      next = c.play.new.seat;
-      before = c.args.self.now;
-      after = record c.args.self.now { session = _ };
-    }) c.in-Err.refused (asking g (goal.at.returns-in-Err-clause-answered g c).After-play)
+    let at = (goal.at.returns-in-Err-clause-answered g c).After-play in
+    answered_refused (call g at (record c.args.self.now { session = _ })) c.in-Err.refused (asking g at)
     (subst (λ heard. IsSeatRefused c.args.seat.now c.play.new.seat heard c.args.plan c.in-Err.refused)
     c.heard_slot.ensures.slot c.in-Err.ensures.refused) c.hear_refusal.ensures.exact
