@@ -128,7 +128,8 @@ admitted_well {s} placed (well, asked) answered =
       awaits = asked.awaited_is;
     }) answered in
     let counts = ap (λ a. counts_of a s.counts) asked.awaited_is in
-    let ground : Ground = record (ground_of s []) { sending = ground_with (counts_of s.awaited s.counts) (ground_of s []) } in
+    let ground : Ground =
+    record (ground_of s []) { sending = ground_with (counts_of s.awaited s.counts) (ground_of s []) } in
     let client = playback_of asked.stored.film s.settings asked.setup in
     let play : HasPlay ground.sending asked.setup begun.play = record {
       of = record {

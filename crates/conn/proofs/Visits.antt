@@ -130,7 +130,8 @@ refusals_longer grown made (Text text ∷ parts) justified = (
 pub agrees_longer : {visit : Visit} {terms : Terms} {journal longer : List Entry} → Agrees visit terms journal →
     IsPrefix journal longer → IsLegal terms.steps longer → Agrees visit terms longer
 agrees_longer {terms = terms} {journal} {longer} agrees prefix legal =
-    let grown : LongerJournal = record (same_journal terms journal 0 0 (omega arith)) { longer = longer; prefix = prefix } in
+    let grown : LongerJournal =
+    record (same_journal terms journal 0 0 (omega arith)) { longer = longer; prefix = prefix } in
     let doings = agrees.doings in
     record {
       legal = legal;

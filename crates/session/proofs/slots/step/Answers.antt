@@ -17,12 +17,14 @@ between slot {old = old} is stepped stops =
 pub returns-in_ok-step-in-Playing-clause-between : goal.returns-in_ok-step-in-Playing-clause-between
 returns-in_ok-step-in-Playing-clause-between g c more stops =
     let step = c.in_ok-step-in-Playing.ensures in
-    between c.args.slot (subst IsPacingIn c.in-Playing.is c.requires) step.state stops (subst (λ n. 0 < n) step.answer.left more)
+    between c.args.slot (subst IsPacingIn c.in-Playing.is c.requires) step.state stops
+    (subst (λ n. 0 < n) step.answer.left more)
 
 pub returns-in_ok-step-in-Stopping-clause-between : goal.returns-in_ok-step-in-Stopping-clause-between
 returns-in_ok-step-in-Stopping-clause-between g c more stops =
     let step = c.in_ok-step-in-Stopping.ensures in
-    between c.args.slot (subst IsPacingIn c.in-Stopping.is c.requires) step.state stops (subst (λ n. 0 < n) step.answer.left more)
+    between c.args.slot (subst IsPacingIn c.in-Stopping.is c.requires) step.state stops
+    (subst (λ n. 0 < n) step.answer.left more)
 
 pub returns-in_err-step-in-Playing-clause-front : goal.returns-in_err-step-in-Playing-clause-front
 returns-in_err-step-in-Playing-clause-front g c =

@@ -5,4 +5,5 @@ use Rattle.turnstile.proofs.steps.give_back.Goals as goal
 pub fetch_add-requires : goal.fetch_add-requires
 fetch_add-requires g c =
     let kept = kept_by g.B.Kept.entries g.B.Kept.terms c.args.shared.now.key.value in let place = c.args.place.now in
-    at_word kept c.requires.seat 1 (omega arith) (leaves kept place.id c.args.shared.now.table_id.slots place.me c.requires.turn)
+    at_word kept c.requires.seat 1 (omega arith)
+    (leaves kept place.id c.args.shared.now.table_id.slots place.me c.requires.turn)

@@ -5,4 +5,5 @@ use Rattle.turnstile.proofs.steps.look.Goals as goal
 pub load-requires : goal.load-requires
 load-requires g c =
     let kept = kept_by g.B.Kept.entries g.B.Kept.terms c.args.shared.now.key.value in let place = c.args.place.now in
-    at_word kept c.requires.seat 1 (omega arith) (looks kept place.id c.args.shared.now.table_id.slots place.me c.requires.waits)
+    at_word kept c.requires.seat 1 (omega arith)
+    (looks kept place.id c.args.shared.now.table_id.slots place.me c.requires.waits)

@@ -18,5 +18,6 @@ returns g c =
       same = visit_same is (entered_longer is c.halt-place.ensures);
       kept = search rules;
       made = subst (λ (b : Booking). HasMadeEntry c.args.seat.now (seat_of c.leave.new.pass) 0
-          (Halt b.number c.args.keep) c.halt-place.result Halted) c.booking.view_is (visit_made is c.halt-place.ensures);
+          (Halt b.number c.args.keep) c.halt-place.result Halted) c.booking.view_is
+          (visit_made is c.halt-place.ensures);
     }
