@@ -5,7 +5,10 @@ use Rattle.std.proofs.Common.{Result, Ok, Err}
 use Rattle.std.specs.Prelude.{IsErrAnd, OnErr, OnOk, is_ok}
 use Rattle.std.proofs.lemmas.Bool.{true≢false}
 use Rattle.std.proofs.Math.Seq.{take-append-add}
-use Rattle.std.proofs.lemmas.List.{take-append-le}
+use Rattle.std.proofs.Common.{◌<◌, drop, get_or}
+use Rattle.std.specs.Prelude.{flat_map}
+use Rattle.std.proofs.lemmas.List.{append_assoc, flat_map_more, take-append-drop, take-append-le, take_more}
+use Rattle.std.proofs.lemmas.List.Concat.{flat_map-append}
 use Rattle.vod_base.specs.IoState.{HasRisen, IsWrittenPrefix, told_more}
 use Rattle.vod_base.proofs.HistoryLemmas.{told_more-append}
 use Rattle.vod_base.specs.declared.errors.SinkFault.{SinkFault}
@@ -100,3 +103,23 @@ pub said_lost : {faults faults' : ℕ} {told told' : Option (List ℕ)} {text : 
     IsTextWritten faults faults' told told' text (is_ok r)
 said_lost (Ok done) is said = absurd is
 said_lost (Err lost) is said = said
+
+-- an item more of a text that is written item by item
+pub said_item : {A : Type 0} {faults faults' faults'' : ℕ} {told told' told'' : Option (List ℕ)} {whole : Bool}
+    (front : List ℕ) (f : A → List ℕ) (items : List A) (i : ℕ) (d : A) → i < length items →
+    IsTextWritten faults faults' told told' (front ++ flat_map f (take i items)) true →
+    IsTextWritten faults' faults'' told' told'' (f (get_or items i d)) whole →
+    IsTextWritten faults faults'' told told'' (front ++ flat_map f (take (i + 1) items)) whole
+said_item front f items i d inside one other =
+    said_as (flat_map_more f front (take i items) (get_or items i d)
+    ∙ ap (λ ts. front ++ flat_map f ts) (sym (take_more items i d inside))) (said_then one other)
+
+-- no item is written after a fault
+pub said_items_lost : {A : Type 0} {faults faults' : ℕ} {told told' : Option (List ℕ)} (front : List ℕ)
+    (f : A → List ℕ) (items : List A) (i : ℕ) →
+    IsTextWritten faults faults' told told' (front ++ flat_map f (take i items)) false →
+    IsTextWritten faults faults' told told' (front ++ flat_map f items) false
+said_items_lost front f items i said =
+    said_as (append_assoc front (flat_map f (take i items)) (flat_map f (drop i items))
+    ∙ ap (λ (t : List ℕ). front ++ t) (sym (flat_map-append f (take i items) (drop i items))
+    ∙ ap (flat_map f) (take-append-drop i items))) (said_no_more (flat_map f (drop i items)) said)

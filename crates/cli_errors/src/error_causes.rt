@@ -7,6 +7,7 @@ ghost use Rattle.cli_errors.specs.ErrorLines.{system_cause_words, words, words_t
 ghost use Rattle.cli_errors.specs.ErrorReports.{HasShortNumbers};
 
 use crate::errors::InputError;
+use crate::parts::write_parts;
 use mpeg_scan::FilmFault;
 use sys_demux::SystemFault;
 use vod_base::{Sink, SinkFault};
@@ -97,7 +98,7 @@ fn write_cause<S: Sink>(sink: &mut S, name: &str, numbers: &[u64]) -> Result<(),
     ensures { IsTextWritten (S.faults sink.old) (S.faults sink.new) (S.written sink.old)
         (S.written sink.new) (words_text (words name.now numbers.now)) (is_ok result) }
 {
-    sink.write_all(name.as_bytes())?;
+    write_parts(sink, &[name.as_bytes()])?;
     for number in numbers {
         write_spaced_number(sink, *number)?;
     }
@@ -111,6 +112,5 @@ fn write_spaced_number<S: Sink>(sink: &mut S, number: u64) -> Result<(), SinkFau
 {
     // On the stack: an error is written when memory is out, too.
     let mut buffer = itoa::Buffer::new();
-    sink.write_all(b" ")?;
-    sink.write_all(buffer.format(number).as_bytes())
+    write_parts(sink, &[b" ", buffer.format(number).as_bytes()])
 }

@@ -1,6 +1,6 @@
 //! The line of an error.
 
-ghost use Rattle.std.specs.Prelude.{◌≡◌, ◌++◌, codes, is_ok};
+ghost use Rattle.std.specs.Prelude.{◌≡◌, is_ok};
 ghost use Rattle.cli_errors.specs.StreamWrites.{IsTextWritten, with_label};
 ghost use Rattle.cli_errors.specs.ErrorLines.{refusal_text, error_text};
 ghost use Rattle.cli_errors.specs.ErrorReports.{HasGoodName, HasShortNumbers, IsErrorLine};
@@ -10,6 +10,7 @@ ghost use Rattle.cli_errors.specs.declared.errors.CliError.{CliError as Cause};
 
 use crate::error_causes::write_input_cause;
 use crate::errors::{CliError, InputError};
+use crate::parts::write_parts;
 use vod_base::{Sink, SinkFault};
 
 /// Writes one error line. It takes no memory. An input with a good name makes it a line that
@@ -24,16 +25,17 @@ pub fn write_error<S: Sink>(sink: &mut S, error: CliError<'_>) -> Result<(), Sin
     ensures may { HasGoodName error.entry → IsPrintableError error.entry }
 {
     match error {
-        CliError::Usage => sink.write_all(b"vodserve: usage\n"),
+        CliError::Usage => write_parts(sink, &[b"vodserve: usage\n"]),
         CliError::Refused(name, fault) => write_input_error(sink, name, fault),
+        // A good name has no blank, no `:` and no line end. So the line is one line, and its parts
+        // can be told apart.
         CliError::StoreFault(name) => {
-            write_input_name(sink, name)?;
-            sink.write_all(b": StoreFault\n")
+            write_parts(sink, &[b"vodserve: ", name.as_bytes(), b": StoreFault\n"])
         }
-        CliError::SinkFault => sink.write_all(b"vodserve: SinkFault\n"),
-        CliError::NoMemory => sink.write_all(b"vodserve: NoMemory\n"),
-        CliError::GateFault => sink.write_all(b"vodserve: GateFault\n"),
-        CliError::LinkFault => sink.write_all(b"vodserve: LinkFault\n"),
+        CliError::SinkFault => write_parts(sink, &[b"vodserve: SinkFault\n"]),
+        CliError::NoMemory => write_parts(sink, &[b"vodserve: NoMemory\n"]),
+        CliError::GateFault => write_parts(sink, &[b"vodserve: GateFault\n"]),
+        CliError::LinkFault => write_parts(sink, &[b"vodserve: LinkFault\n"]),
     }
 }
 
@@ -48,10 +50,8 @@ pub fn write_number<S: Sink>(sink: &mut S, label: &str, number: u64) -> Result<(
 {
     // On the stack: an error is written when memory is out, too.
     let mut buffer = itoa::Buffer::new();
-    sink.write_all(b" ")?;
-    sink.write_all(label.as_bytes())?;
-    sink.write_all(b"=")?;
-    sink.write_all(buffer.format(number).as_bytes())
+    let digits = buffer.format(number).as_bytes();
+    write_parts(sink, &[b" ", label.as_bytes(), b"=", digits])
 }
 
 /// A law: the line of an error is one line of the program's own, and determines its cause: errors
@@ -63,25 +63,13 @@ pub fn law_error_line_determines_error()
         error_text error ≡ error_text error' → error_report_of error ≡ error_report_of error' }
 {}
 
-/// Writes the program's name and that of an input.
-fn write_input_name<S: Sink>(sink: &mut S, name: &str) -> Result<(), SinkFault>
-    ensures { IsTextWritten (S.faults sink.old) (S.faults sink.new) (S.written sink.old)
-        (S.written sink.new) (codes "vodserve: " ++ name.now) (is_ok result) }
-{
-    // A good name has no blank, no `:` and no line end. So the line is one line, and its parts can
-    // be told apart.
-    sink.write_all(b"vodserve: ")?;
-    sink.write_all(name.as_bytes())
-}
-
 /// Says that an input is refused.
 fn write_input_error<S: Sink>(sink: &mut S, name: &str, fault: InputError) -> Result<(), SinkFault>
     ensures said { IsTextWritten (S.faults sink.old) (S.faults sink.new) (S.written sink.old)
         (S.written sink.new) (refusal_text name.now fault) (is_ok result) }
     ensures short { HasShortNumbers fault }
 {
-    write_input_name(sink, name)?;
-    sink.write_all(b": ")?;
+    write_parts(sink, &[b"vodserve: ", name.as_bytes(), b": "])?;
     write_input_cause(sink, fault)?;
-    sink.write_all(b"\n")
+    write_parts(sink, &[b"\n"])
 }

@@ -1,5 +1,8 @@
 //! The errors of the program.
 
+ghost use Rattle.std.specs.Prelude.{◌≡◌};
+ghost use Rattle.cli_errors.specs.declared.errors.CliError.{CliError};
+
 use mpeg_scan::FilmFault;
 use std::alloc::{AllocError, AllocFailed};
 use sys_demux::SystemFault;
@@ -85,13 +88,7 @@ pub enum CliError<'a> {
 }
 
 impl From<NoMemory> for CliError<'_> {
-    ghost use Rattle.std.specs.Prelude.{◌≡◌};
-    ghost use Rattle.cli_errors.specs.declared.errors.CliError.TheVariants.{
-      NoMemory as
-          MemoryTrouble,
-    };
-
-    ghost from_gives = { λ _ error. error ≡ MemoryTrouble };
+    ghost from_gives = { λ _ error. error ≡ CliError.NoMemory };
 
     fn from(_fault: NoMemory) -> Self {
         CliError::NoMemory
@@ -99,13 +96,7 @@ impl From<NoMemory> for CliError<'_> {
 }
 
 impl From<AllocError> for CliError<'_> {
-    ghost use Rattle.std.specs.Prelude.{◌≡◌};
-    ghost use Rattle.cli_errors.specs.declared.errors.CliError.TheVariants.{
-      NoMemory as
-          MemoryTrouble,
-    };
-
-    ghost from_gives = { λ _ error. error ≡ MemoryTrouble };
+    ghost from_gives = { λ _ error. error ≡ CliError.NoMemory };
 
     fn from(_error: AllocError) -> Self {
         CliError::NoMemory
@@ -113,13 +104,7 @@ impl From<AllocError> for CliError<'_> {
 }
 
 impl<T: Drop> From<AllocFailed<T>> for CliError<'_> {
-    ghost use Rattle.std.specs.Prelude.{◌≡◌};
-    ghost use Rattle.cli_errors.specs.declared.errors.CliError.TheVariants.{
-      NoMemory as
-          MemoryTrouble,
-    };
-
-    ghost from_gives = { λ _ error. error ≡ MemoryTrouble };
+    ghost from_gives = { λ _ error. error ≡ CliError.NoMemory };
 
     fn from(_error: AllocFailed<T>) -> Self {
         CliError::NoMemory
@@ -127,13 +112,7 @@ impl<T: Drop> From<AllocFailed<T>> for CliError<'_> {
 }
 
 impl From<GateFault> for CliError<'_> {
-    ghost use Rattle.std.specs.Prelude.{◌≡◌};
-    ghost use Rattle.cli_errors.specs.declared.errors.CliError.TheVariants.{
-      GateFault as
-          GateTrouble,
-    };
-
-    ghost from_gives = { λ _ error. error ≡ GateTrouble };
+    ghost from_gives = { λ _ error. error ≡ CliError.GateFault };
 
     fn from(_fault: GateFault) -> Self {
         CliError::GateFault
@@ -141,13 +120,7 @@ impl From<GateFault> for CliError<'_> {
 }
 
 impl From<SinkFault> for CliError<'_> {
-    ghost use Rattle.std.specs.Prelude.{◌≡◌};
-    ghost use Rattle.cli_errors.specs.declared.errors.CliError.TheVariants.{
-      SinkFault as
-          SinkTrouble,
-    };
-
-    ghost from_gives = { λ _ error. error ≡ SinkTrouble };
+    ghost from_gives = { λ _ error. error ≡ CliError.SinkFault };
 
     fn from(_fault: SinkFault) -> Self {
         CliError::SinkFault

@@ -6,6 +6,7 @@ mod error_causes;
 mod error_lines;
 mod errors;
 mod exit_statuses;
+mod parts;
 
 pub use error_lines::{write_error, write_number};
 pub use errors::{CliError, InputError};
