@@ -10,7 +10,7 @@ mod LoadLemmas
 mod NumberDigitLemmas
 mod FirstWordLemmas
 mod TraceWordLemmas
-mod TraceLineLemmas
+pub mod TraceLineLemmas
 mod StreamFaultLemmas
 mod LibraryLemmas
 mod RefusalLemmas

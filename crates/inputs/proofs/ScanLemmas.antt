@@ -19,13 +19,13 @@ use Rattle.cli_errors.specs.declared.errors.InputError.TheVariants.{Film, System
 use Rattle.cli_errors.specs.declared.errors.CliError.{CliError}
 use Rattle.cli_errors.specs.ReadErrors.{IsReadError, IsLibraryUnchanged}
 use Rattle.cli_errors.proofs.ReadErrorLemmas.{causes_of, trouble_map}
-use Rattle.inputs.specs.LoadErrors.{IsFilmFault, IsFilmError, IsRefusal, IsSystemFault, IsSystemError}
+use Rattle.inputs.specs.LoadErrors.{IsFilmFault, IsFilmError, IsSystemFault, IsSystemError}
 use Rattle.inputs.specs.FileReads.{IsFilePrefix, IsThatName, IsNever}
 use Rattle.inputs.specs.ChunkScans.{HasScannedFilm, HasRefused, HasReportedParts, HoldsVideo}
 use Rattle.inputs.specs.ChunkScans.{IsFilmRefused, IsOpened, IsScanError}
 use Rattle.inputs.specs.Videos.{IsVideo, IsVideoFrom}
 use Rattle.inputs.proofs.ReadLemmas.{front_rest, one_file}
-use Rattle.inputs.proofs.RefusalLemmas.{each_film_fault, each_system_fault, refusal_read}
+use Rattle.inputs.proofs.RefusalLemmas.{LibraryCall, each_film_fault, each_system_fault, refusal_read}
 
 -- a file of a library whose first start code was looked for, of at most 2^40 bytes
 pub record FilmFile (from : Option ℕ) : Type 0 where
@@ -146,36 +146,11 @@ pub ok_map : {T E : Type 0} (P Q : T → Type 0) (r : Result T E) → ((x : T) �
 ok_map P Q (Ok x) f h = f x h
 ok_map P Q (Err e) f h = tt
 
--- a call that reads the file of a name in a library: what the library exposes, and its count of faults before and after
-pub record LibraryCall : Type 0 where
-  pub told : Option (List File)
-  pub name : List ℕ
-  pub before : ℕ
-  pub after : ℕ
-
-abbrev pub library_call : Option (List File) → List ℕ → ℕ → ℕ → LibraryCall
-library_call told name before after = record { told = told; name = name; before = before; after = after }
-
--- the error for a film that is refused for a reason: that of its video, or of its system stream
-scan_trouble : {Reason : InputError → Type 0} (call : LibraryCall) (t : CliError)
-    → ((held : List File) (fault : InputError) → call.told ≡ Some held → Reason fault
-    → IsFilmRefused held call.name fault) → IsRefusal call.name Reason t
-    → IsScanError call.name call.told call.before call.after t
-scan_trouble {Reason} call t means h = refusal_read (record {
-  told = call.told;
-  name = call.name;
-  before = call.before;
-  after = call.after;
-  Reason = Reason;
-  Refuses = IsFilmRefused;
-  means = means;
-}) t h
-
 pub film_trouble : {Refuses : FilmFault → Type 0} (call : LibraryCall) (t : CliError)
     → ((held : List File) (fault : FilmFault) → call.told ≡ Some held → Refuses fault
     → IsFilmRefused held call.name (Film fault)) → IsFilmError call.name Refuses t
     → IsScanError call.name call.told call.before call.after t
-film_trouble {Refuses} call t refuses h = scan_trouble {Reason = IsFilmFault Refuses} call t (λ held fault is r.
+film_trouble {Refuses} call t refuses h = refusal_read {Reason = IsFilmFault Refuses} _ call t (λ held fault is r.
     each_film_fault (IsFilmRefused held call.name) fault (λ own its. refuses held own is its) r) h
 
 pub film_troubles : {T : Type 0} {Refuses : FilmFault → Type 0} (call : LibraryCall) (r : Result T CliError)
@@ -189,7 +164,7 @@ pub system_trouble : {Refuses : SystemFault → Type 0} (call : LibraryCall) (t 
     → ((held : List File) (fault : SystemFault) → call.told ≡ Some held → Refuses fault
     → IsFilmRefused held call.name (System fault)) → IsSystemError call.name Refuses t
     → IsScanError call.name call.told call.before call.after t
-system_trouble {Refuses} call t refuses h = scan_trouble {Reason = IsSystemFault Refuses} call t (λ held fault is r.
+system_trouble {Refuses} call t refuses h = refusal_read {Reason = IsSystemFault Refuses} _ call t (λ held fault is r.
     each_system_fault (IsFilmRefused held call.name) fault (λ own its. refuses held own is its) r) h
 
 -- the error of a read, where each cause follows from another

@@ -73,6 +73,11 @@ pub record StreamFront : Type 0 where
   pub seen : List ℕ
   pub front : IsStreamFront size from seen held name
 
+abbrev pub stream_front : {held : List File} {name seen : List ℕ} {size from : ℕ} →
+    IsStreamFront size from seen held name → StreamFront
+stream_front {held} {name} {seen} {size} {from} front =
+    record { held = held; name = name; size = size; from = from; seen = seen; front = front }
+
 -- a chunk of it more
 pub front_more : (stream : StreamFront) (more : List ℕ)
     → ((bytes : List ℕ) → IsFilePrefix stream.held stream.name stream.size bytes

@@ -70,6 +70,12 @@ blanks_at text at n fits blank =
 pub slice_from : (text : List ℕ) (at : ℕ) → take (length text - at) (drop at text) ≡ drop at text
 slice_from text at = take_all (length text - at) (drop at text) (omega (arith, length-drop at text))
 
+-- what is taken of the rest of a text stays within it
+pub taken_within : (text : List ℕ) (at : ℕ) {taken : ℕ} → at ≤ length text →
+    taken ≤ length (take (length text - at) (drop at text)) → at + taken ≤ length text
+taken_within text at within taken_fits =
+    omega (arith, ap length (slice_from text at), length-drop at text, within, taken_fits)
+
 -- the tokens before `at` write the sizes, whose sum is `total`
 pub record HasRead (text : List ℕ) (at : ℕ) (sizes : List ℕ) (total : ℕ) : Type 0 where
   pub within : at ≤ length text

@@ -59,7 +59,8 @@ numbers_read sizes small =
     ap (λ (ts : List Token). map (λ (token : Token). number_of token.bytes) ts) (tokens_are 0 sizes small)
     ∙ numbers_are 0 sizes small
 
-same_somes : (one other : List ℕ) → map (λ (n : ℕ). Some n) one ≡ map (λ (n : ℕ). Some n) other → one ≡ other
+-- lists are the same where all their elements are
+pub same_somes : (one other : List ℕ) → map (λ (n : ℕ). Some n) one ≡ map (λ (n : ℕ). Some n) other → one ≡ other
 same_somes [] [] e = refl
 same_somes [] (n ∷ other) e = cc
 same_somes (n ∷ one) [] e = cc

@@ -1,6 +1,6 @@
 -- A file has one video, and none where it is refused.
-use Rattle.std.proofs.Common.{◌≡◌, ◌≤◌, ◌^◌, ℕ, List, length, Some, None, Option, inl, inr, sym, ap, ◌∙◌, arith, subst}
-use Rattle.vod_base.specs.IoState.{File, file_named}
+use Rattle.std.proofs.Common.{◌≡◌, ◌≤◌, ℕ, List, length, Some, None, Option, inl, inr, sym, ap, ◌∙◌, arith, subst}
+use Rattle.vod_base.specs.IoState.{File}
 use Rattle.mpeg_scan.specs.declared.faults.FilmFault.TheVariants.{TooLong}
 use Rattle.mpeg_scan.specs.Films.{refusal}
 use Rattle.sys_demux.specs.declared.faults.SystemFault.{SystemFault}
@@ -38,22 +38,15 @@ video_not_refused file video (System fault) is accepted refused =
     from_not_fault (pack_in file) file video fault is refused
 video_not_refused file video other is accepted refused = refused
 
--- a file of at most so many bytes, whose video is accepted
-pub record HoldsAccepted (held : List File) (name video : List ℕ) (most : ℕ) : Type 0 where
-  pub file : List ℕ
-  pub found : file_named held name ≡ Some file
-  pub short : length file ≤ most
-  pub is_video : IsVideo file video
-  pub accepted : refusal video ≡ None
-
--- isn't refused
+-- a file that isn't larger, and whose video is accepted, isn't refused
 pub file_not_refused : {held : List File} {name video : List ℕ} {most : ℕ} (over fault : InputError)
-    → HoldsAccepted held name video most → IsRefusedAbove most over held name fault → ⊥
-file_not_refused over fault holds (inl missing) = let both : Some holds.file ≡ None = sym holds.found ∙ missing.1 in cc
-file_not_refused {held} {name} {video} over fault holds (inr other) =
+    → (holds : HoldsVideo held name video) → length holds.file ≤ most → IsRefusedAbove most over held name fault → ⊥
+file_not_refused over fault holds short (inl missing) =
+    let both : Some holds.file ≡ None = sym holds.found ∙ missing.1 in cc
+file_not_refused {held} {name} {video} over fault holds short (inr other) =
     let same : holds.file ≡ other.0 = one_file held name holds.file other.0 holds.found other.1.0 in
     elim other.1.1 [
-      | inl long ↦ omega (arith, ap length same, holds.short, long.0)
+      | inl long ↦ omega (arith, ap length same, short, long.0)
       | inr refused ↦
           video_not_refused other.0 video fault (subst (λ (f : List ℕ). IsVideo f video) same holds.is_video)
           holds.accepted refused.1
@@ -63,11 +56,4 @@ file_not_refused {held} {name} {video} over fault holds (inr other) =
 pub held_not_refused : (held : List File) (name video : List ℕ) (fault : InputError) → HoldsVideo held name video
     → IsFilmRefused held name fault → ⊥
 held_not_refused held name video fault holds refused =
-    let its : HoldsAccepted held name video (2 ^ 40) = record {
-      file = holds.file;
-      found = holds.found;
-      short = holds.short;
-      is_video = holds.is_video;
-      accepted = holds.accepted;
-    } in
-    file_not_refused (Film TooLong) fault its refused
+    file_not_refused (Film TooLong) fault holds holds.short refused

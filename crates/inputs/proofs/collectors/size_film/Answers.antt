@@ -7,13 +7,9 @@ use Rattle.inputs.proofs.collectors.size_film.Goals as goal
 pub returns-clause-film : goal.returns-clause-film
 returns-clause-film g c = λ held told.
     let heard = (c.in_ok-ending.ensures {u = tt}).film in
-    record {
-      video = heard.video;
-      holds = heard.holds held told;
-      rate_is = heard.ended.rate_is;
-      sizes_are = film-sizes heard.video c.scan_film_into.new.found.unit c.scan_film_into.new.found.sizes.items
-          heard.ended.accepted heard.ended.heard;
-    }
+    let same = film-sizes heard.video c.scan_film_into.new.found.unit c.scan_film_into.new.found.sizes.items
+    heard.ended.accepted heard.ended.heard in
+    record { video = heard.video; holds = heard.holds held told; rate_is = heard.ended.rate_is; sizes_are = same }
 
 pub returns-clause-limits : goal.returns-clause-limits
 returns-clause-limits g c =

@@ -1,10 +1,10 @@
-use Rattle.std.proofs.Common.{◌≡◌, ◌∙◌, ℕ, ◌+◌, List, [], ◌++◌, length, take, ap, arith, rules, subst, sym}
-use Rattle.std.proofs.lemmas.List.{append-nil, length-drop, take_all}
+use Rattle.std.proofs.Common.{◌≡◌, ◌∙◌, ℕ, ◌+◌, List, [], ◌++◌, take, arith, rules, subst, sym}
+use Rattle.std.proofs.lemmas.List.{append-nil, take_all}
 use Rattle.sys_demux.specs.ParserStates.{WasFed}
 use Rattle.sys_demux.specs.SystemStreams.{IsBadStream, IsSystem}
 use Rattle.inputs.proofs.ScanLemmas.{handed_on}
 use Rattle.inputs.proofs.StreamLemmas.{parts_joined, rest_joined}
-use Rattle.inputs.proofs.TokenLemmas.{slice_from}
+use Rattle.inputs.proofs.TokenLemmas.{taken_within}
 use Rattle.inputs.proofs.films.unwrap_stream.Goals as goal
 
 pub loop-at-init : goal.loop-at-init
@@ -20,13 +20,8 @@ loop-at-preserved c =
     let pushed : c.extend_from_slice.new.self.items ≡ c.loop-at.video.items ++ c.in_ok-fed.fed.video.now =
     search rules in
     record {
-      within = omega (
-        arith,
-        (c.in_ok-fed.ensures {u = tt}).taken.1,
-        ap length (slice_from c.args.stream.now c.loop-at.at),
-        length-drop c.loop-at.at c.args.stream.now,
-        c.loop-at.invariant.within,
-      );
+      within = taken_within c.args.stream.now c.loop-at.at c.loop-at.invariant.within
+          (c.in_ok-fed.ensures {u = tt}).taken.1;
       count = omega (arith, (c.in_ok-fed.ensures {u = tt}).count, c.loop-at.invariant.count);
       fed = subst (λ (l : List ℕ). WasFed c.feed.new.self
           (take (c.loop-at.at + c.in_ok-fed.fed.taken) c.args.stream.now) l) (sym pushed)

@@ -4,7 +4,8 @@ use Rattle.mpeg_scan.specs.StartCodes.{read_after}
 use Rattle.mpeg_scan.proofs.FilmLemmas.{length-read}
 use Rattle.inputs.proofs.LibraryLemmas.{then_read}
 use Rattle.inputs.proofs.ReadLemmas.{chunk_long}
-use Rattle.inputs.proofs.ScanLemmas.{chunk_refused, film_file, film_trouble, library_call, more_told}
+use Rattle.inputs.proofs.RefusalLemmas.{library_call}
+use Rattle.inputs.proofs.ScanLemmas.{chunk_refused, film_file, film_trouble, more_told}
 use Rattle.inputs.proofs.scans.feed_film.Goals as goal
 
 pub feed-requires-clause-short : goal.feed-requires-clause-short

@@ -11,10 +11,8 @@ use Rattle.inputs.proofs.scans.scan_film_into.Goals as goal
 
 pub returns-in_err-size-clause-error : goal.returns-in_err-size-clause-error
 returns-in_err-size-clause-error g c =
-    handed_on _ c.from_residual.result c.from_residual.ensures.1
-    (read_trouble_map _ _ c.in_err-size.field-0.0 (λ name is. is)
-    (λ held name fault told is missing. inl missing)
-    ((c.in_err-size.ensures {u = tt}).error))
+    handed_on _ c.from_residual.result c.from_residual.ensures.1 (read_trouble_map _ _ c.in_err-size.field-0.0
+    (λ name is. is) (λ held name fault told is missing. inl missing) ((c.in_err-size.ensures {u = tt}).error))
 
 pub returns-in_err-chunk-clause-error : goal.returns-in_err-chunk-clause-error
 returns-in_err-chunk-clause-error g c =
@@ -37,17 +35,15 @@ returns-then-size-gt-MAX_FILM_BYTES-clause-error g c = (
 
 pub scan_plain-requires-clause-opened : goal.scan_plain-requires-clause-opened
 scan_plain-requires-clause-opened g c = λ held is.
-    rw c.in-None.is at
-    ((c.in_ok-stream.ensures {u = tt}).opened held (sym c.find_pack.ensures.library.kept ∙ is)
-    ((c.in_ok-size.ensures {u = tt}).found held
-    (sym c.find_file.ensures.library.kept ∙ sym c.find_pack.ensures.library.kept ∙ is)))
+    let told = sym c.find_pack.ensures.library.kept ∙ is in
+    rw c.in-None.is at ((c.in_ok-stream.ensures {u = tt}).opened held told
+    ((c.in_ok-size.ensures {u = tt}).found held (sym c.find_file.ensures.library.kept ∙ told)))
 
 pub scan_stream-requires-clause-opened : goal.scan_stream-requires-clause-opened
 scan_stream-requires-clause-opened g c = λ held is.
-    rw c.in-Some.is at
-    ((c.in_ok-stream.ensures {u = tt}).opened held (sym c.find_pack.ensures.library.kept ∙ is)
-    ((c.in_ok-size.ensures {u = tt}).found held
-    (sym c.find_file.ensures.library.kept ∙ sym c.find_pack.ensures.library.kept ∙ is)))
+    let told = sym c.find_pack.ensures.library.kept ∙ is in
+    rw c.in-Some.is at ((c.in_ok-stream.ensures {u = tt}).opened held told
+    ((c.in_ok-size.ensures {u = tt}).found held (sym c.find_file.ensures.library.kept ∙ told)))
 
 pub returns-in-None-clause-film : goal.returns-in-None-clause-film
 returns-in-None-clause-film g c =

@@ -2,8 +2,9 @@ use Rattle.std.proofs.Common.{◌≡◌, ◌∙◌, ◌++◌, List, ℕ, arith, 
 use Rattle.std.proofs.lemmas.List.{length-take-le}
 use Rattle.inputs.proofs.LibraryLemmas.{then_read}
 use Rattle.inputs.proofs.ReadLemmas.{chunk_long}
-use Rattle.inputs.proofs.ScanLemmas.{film_file, library_call, system_trouble}
-use Rattle.inputs.proofs.StreamLemmas.{chunk_told, front_more, stream_rest}
+use Rattle.inputs.proofs.RefusalLemmas.{library_call}
+use Rattle.inputs.proofs.ScanLemmas.{film_file, system_trouble}
+use Rattle.inputs.proofs.StreamLemmas.{chunk_told, front_more, stream_front, stream_rest}
 use Rattle.inputs.proofs.streams.feed_stream.Goals as goal
 
 pub unwrap_chunk-requires-clause-room : goal.unwrap_chunk-requires-clause-room
@@ -29,14 +30,7 @@ returns-in-Err-clause-error g c =
       file = film_file (c.requires.opened held is) c.requires.short;
       seen = so_far.seen;
       chunk = chunk;
-      front = front_more (record {
-        held = held;
-        name = c.args.file.name.now;
-        size = c.args.file.size;
-        from = c.args.from;
-        seen = so_far.seen;
-        front = so_far.front held is;
-      }) chunk (λ bytes front long.
+      front = front_more (stream_front (so_far.front held is)) chunk (λ bytes front long.
           rw c.in-Some.is at
           ((c.in_ok-count.ensures {u = tt}).told held bytes (c.loop-count.invariant.library.kept ∙ is) front
           (long ∙ so_far.long)));
@@ -56,14 +50,7 @@ loop-count-preserved g c =
         seen = so_far.seen ++ take c.in-Some.count c.read_at.new.into;
         long = omega (arith, chunk_long so_far.seen c.read_at.new.into chunk, so_far.long);
         unwrapped = (c.in_default-unwrap_chunk.ensures {u = tt}).next so_far.seen so_far.unwrapped;
-        front = λ held is. front_more (record {
-          held = held;
-          name = c.args.file.name.now;
-          size = c.args.file.size;
-          from = c.args.from;
-          seen = so_far.seen;
-          front = so_far.front held is;
-        }) (take c.in-Some.count c.read_at.new.into) (λ bytes front long.
+        front = λ held is. front_more (stream_front (so_far.front held is)) (take c.in-Some.count c.read_at.new.into) (λ bytes front long.
             rw c.in-Some.is at
             ((c.in_ok-count.ensures {u = tt}).told held bytes (c.loop-count.invariant.library.kept ∙ is) front
             (long ∙ so_far.long)));

@@ -1,7 +1,8 @@
 use Rattle.std.proofs.Common.{◌≤◌, ◌^◌, ℕ, List, [], inl, length, subst, sym, arith}
 use Rattle.sys_demux.specs.SystemStreams.{IsBadStream, IsSystem}
 use Rattle.inputs.specs.ChunkScans.{HasEnded, HasScannedFilm, IsRefusedAtEnd}
-use Rattle.inputs.proofs.ScanLemmas.{film_file, film_troubles, handed_on, library_call, none_told, ok_map}
+use Rattle.inputs.proofs.RefusalLemmas.{library_call}
+use Rattle.inputs.proofs.ScanLemmas.{film_file, film_troubles, handed_on, none_told, ok_map}
 use Rattle.inputs.proofs.ScanLemmas.{system_trouble}
 use Rattle.inputs.proofs.StreamLemmas.{first_stream, stream_fault, stream_holds, stream_refused, stream_seen}
 use Rattle.inputs.proofs.streams.scan_stream.Goals as goal
@@ -46,8 +47,6 @@ pub returns-in-Ok-clause-error : goal.returns-in-Ok-clause-error
 returns-in-Ok-clause-error g c =
     let all = (c.in_ok-feed_stream.ensures {u = tt}).streamed in
     let video = all.unwrapped.video in
-    let system : IsSystem all.seen video = (c.in-Ok.ensures {u = tt}).end all.seen video all.unwrapped.fed in
-    let short : length video ≤ 2 ^ 40 = omega (arith, c.requires.short, all.unwrapped.few, all.few) in
     film_troubles
     {Refuses = IsRefusedAtEnd (g.F.Found.heard c.feed_stream.new.found) c.feed_stream.new.scanner}
     (library_call (g.L.Library.files c.args.library.now) c.args.file.name.now
@@ -55,8 +54,9 @@ returns-in-Ok-clause-error g c =
     (λ held fault is refuses.
     let file = film_file (c.requires.opened held is) c.requires.short in
     stream_refused file
-    (subst (λ (l : List ℕ). IsSystem l video) (sym (stream_seen file (all.whole held is))) system)
-    (refuses video short all.unwrapped.taken)) c.finish_scan.ensures.error
+    (subst (λ (l : List ℕ). IsSystem l video) (sym (stream_seen file (all.whole held is)))
+    ((c.in-Ok.ensures {u = tt}).end all.seen video all.unwrapped.fed))
+    (refuses video (omega (arith, c.requires.short, all.unwrapped.few, all.few)) all.unwrapped.taken)) c.finish_scan.ensures.error
 
 pub returns-in-Err-clause-error : goal.returns-in-Err-clause-error
 returns-in-Err-clause-error g c =

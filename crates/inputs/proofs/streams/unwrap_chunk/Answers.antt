@@ -1,7 +1,7 @@
-use Rattle.std.proofs.Common.{ℕ, List, ◌++◌, take, length, ap, arith, sym, subst}
-use Rattle.std.proofs.lemmas.List.{append-nil, length-drop, take_all}
+use Rattle.std.proofs.Common.{ℕ, List, ◌++◌, take, arith, sym, subst}
+use Rattle.std.proofs.lemmas.List.{append-nil, take_all}
 use Rattle.inputs.specs.ChunkScans.{HasUnwrapped}
-use Rattle.inputs.proofs.TokenLemmas.{slice_from}
+use Rattle.inputs.proofs.TokenLemmas.{taken_within}
 use Rattle.inputs.proofs.ScanLemmas.{handed_on}
 use Rattle.inputs.proofs.StreamLemmas.{part_refused, parts_joined}
 use Rattle.inputs.proofs.streams.unwrap_chunk.Goals as goal
@@ -19,13 +19,8 @@ loop-at-init g c = record {
 
 pub loop-at-preserved : goal.loop-at-preserved
 loop-at-preserved g c = record {
-  within = omega (
-    arith,
-    (c.in_ok-taken.ensures {u = tt}).taken.1,
-    ap length (slice_from c.args.chunk.now c.loop-at.at),
-    length-drop c.loop-at.at c.args.chunk.now,
-    c.loop-at.invariant.within,
-  );
+  within = taken_within c.args.chunk.now c.loop-at.at c.loop-at.invariant.within
+      (c.in_ok-taken.ensures {u = tt}).taken.1;
   count = omega (arith, c.loop-at.invariant.count, (c.in_ok-taken.ensures {u = tt}).count);
   few = omega (
     arith,
