@@ -17,7 +17,7 @@ use Rattle.vod_base.specs.Names.{is_name_byte}
 use Rattle.rtsp_text.specs.Grammar.{is_token, is_url_byte, is_value_byte, IsUrl, IsRtspUrl}
 use Rattle.rtsp_text.specs.Replies.{Field, value_named}
 use Rattle.rtsp_text.specs.RequestTexts.{RequestPieces, request_head, request_text, IsHeaderField, AreRequest}
-use Rattle.rtsp_text.specs.RequestTexts.{AreShort}
+use Rattle.rtsp_text.specs.RequestTexts.{AreFront, AreShort, IsWord}
 use Rattle.vod_base.proofs.DigitLemmas.{decimal_numerals}
 use Rattle.vod_base.proofs.TextLemmas.{trimmed_is}
 use Rattle.rtsp_text.proofs.GrammarBytes.{word_of, value_of}
@@ -26,7 +26,8 @@ use Rattle.rtsp_text.proofs.LineBounds.{all-append}
 use Rattle.rtsp_text.proofs.UrlBytes.{all_of, name_in_url}
 use Rattle.rtsp_client.specs.WatchRequests.{IsWish}
 use Rattle.rtsp_client.specs.Requests.{film_url, setup_text, play_text, teardown_text}
-use Rattle.rtsp_client.specs.RequestParts.{setup_parts, play_parts, teardown_parts, IsSessionId, IsRequestText}
+use Rattle.rtsp_client.specs.RequestParts.{setup_parts, play_parts, teardown_parts, request_pieces}
+use Rattle.rtsp_client.specs.RequestParts.{IsSessionId, IsRequestText}
 use Rattle.rtsp_client.specs.declared.watch_request.Wish.{Wish}
 use Rattle.rtsp_client.proofs.RequestTexts.{setup-is, setup_rest, play-is, play_rest, teardown-is, teardown_rest}
 use Rattle.rtsp_client.proofs.Texts.{put-long}
@@ -226,6 +227,11 @@ setup-asked wish is port =
       ),
     ) (setup-is wish)
 
+-- the parts of a request for a film
+film-front : {method : List ℕ} {fields : List Field} (wish : Wish) → IsFilm wish → IsWord method →
+    All IsHeaderField fields → AreFront (request_pieces method (film_url wish) fields)
+film-front wish film word fields = record { method_is = word; url_is = film-is-url wish film; fields_are = fields }
+
 -- PLAY
 play-request : (wish : Wish) (session : List ℕ) → IsFilm wish → IsSessionId session
     → AreRequest (play_parts wish session) 2
@@ -233,15 +239,11 @@ unfolding value_named
 play-request wish session film id =
     let range : Field = record { name = codes "Range"; value = codes "npt=0-" } in
     record {
-      front = record {
-        method_is = word_of (codes "PLAY") refl;
-        url_is = film-is-url wish film;
-        fields_are =
-            field-more (codes "CSeq") (codes "2")
-            (record { name = codes "Session"; value = session } ∷ range ∷ []) refl refl
-            (session-more session (range ∷ []) id
-            (field-more range.name range.value [] refl refl (All-nil IsHeaderField)));
-      };
+      front = film-front wish film (word_of (codes "PLAY") refl)
+          (field-more (codes "CSeq") (codes "2")
+          (record { name = codes "Session"; value = session } ∷ range ∷ []) refl refl
+          (session-more session (range ∷ []) id
+          (field-more range.name range.value [] refl refl (All-nil IsHeaderField))));
       sequence_is = refl;
       length_is = refl;
     }
@@ -259,13 +261,9 @@ teardown-request : (wish : Wish) (session : List ℕ) → IsFilm wish → IsSess
     → AreRequest (teardown_parts wish session) 3
 unfolding value_named
 teardown-request wish session film id = record {
-  front = record {
-    method_is = word_of (codes "TEARDOWN") refl;
-    url_is = film-is-url wish film;
-    fields_are =
-        field-more (codes "CSeq") (codes "3") (record { name = codes "Session"; value = session } ∷ []) refl refl
-        (session-more session [] id (All-nil IsHeaderField));
-  };
+  front = film-front wish film (word_of (codes "TEARDOWN") refl)
+      (field-more (codes "CSeq") (codes "3") (record { name = codes "Session"; value = session } ∷ []) refl refl
+      (session-more session [] id (All-nil IsHeaderField)));
   sequence_is = refl;
   length_is = refl;
 }

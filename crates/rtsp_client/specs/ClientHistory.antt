@@ -21,16 +21,12 @@ History = List ClientEvent
 abbrev pub replies : History → ℕ
 replies [] = 0
 replies (Reply message ∷ h) = replies h + 1
-replies (Frame block ∷ h) = replies h
-replies (Report block ∷ h) = replies h
-replies (Slot slot cut ∷ h) = replies h
+replies (event ∷ h) = replies h
 
 abbrev pub frames : History → ℕ
 frames [] = 0
-frames (Reply message ∷ h) = frames h
 frames (Frame block ∷ h) = frames h + 1
-frames (Report block ∷ h) = frames h
-frames (Slot slot cut ∷ h) = frames h
+frames (event ∷ h) = frames h
 
 -- the reply to PLAY was received, which is the second one
 abbrev pub is_playing : History → Bool
@@ -39,19 +35,16 @@ is_playing h = nat_lt 1 (replies h)
 -- the number of reports after that reply
 abbrev pub reports : History → ℕ
 reports [] = 0
-reports (Reply message ∷ h) = reports h
-reports (Frame block ∷ h) = reports h
 reports (Report block ∷ h) = if is_playing h then reports h + 1 else reports h
-reports (Slot slot cut ∷ h) = reports h
+reports (event ∷ h) = reports h
 
 -- the bytes of frames and reports after that reply; frames come after it alone
 abbrev pub bytes_received : History → ℕ
 bytes_received [] = 0
-bytes_received (Reply message ∷ h) = bytes_received h
 bytes_received (Frame block ∷ h) = bytes_received h + length block
 bytes_received (Report block ∷ h) = if is_playing h then bytes_received h + length block
     else bytes_received h
-bytes_received (Slot slot cut ∷ h) = bytes_received h
+bytes_received (event ∷ h) = bytes_received h
 
 -- whether a frame is the last of its unit
 abbrev pub is_last : List ℕ → Bool
@@ -60,89 +53,68 @@ is_last block = (head_at (drop 4 block)).marker
 -- a frame was received of a unit that isn't complete
 abbrev pub is_inside : History → Bool
 is_inside [] = false
-is_inside (Reply message ∷ h) = is_inside h
 is_inside (Frame block ∷ h) = not (is_last block)
-is_inside (Report block ∷ h) = is_inside h
-is_inside (Slot slot cut ∷ h) = is_inside h
+is_inside (event ∷ h) = is_inside h
 
 -- the bytes so far of the unit that isn't complete: its frames, and the reports directly before its
 -- first one
 abbrev pub bytes_pending : History → ℕ
 bytes_pending [] = 0
-bytes_pending (Reply message ∷ h) = bytes_pending h
 bytes_pending (Frame block ∷ h) = if is_last block then 0 else bytes_pending h + length block
 bytes_pending (Report block ∷ h) = if is_playing h && not (is_inside h)
     then bytes_pending h + length block else bytes_pending h
-bytes_pending (Slot slot cut ∷ h) = bytes_pending h
+bytes_pending (event ∷ h) = bytes_pending h
 
 -- the sizes of the complete units, in order
 abbrev pub sizes : History → List ℕ
 sizes [] = []
-sizes (Reply message ∷ h) = sizes h
 sizes (Frame block ∷ h) = if is_last block
     then sizes h ++ (bytes_pending h + length block) ∷ [] else sizes h
-sizes (Report block ∷ h) = sizes h
-sizes (Slot slot cut ∷ h) = sizes h
+sizes (event ∷ h) = sizes h
 
 -- the payloads of the frames, one after another
 abbrev pub payloads : History → List ℕ
 payloads [] = []
-payloads (Reply message ∷ h) = payloads h
 payloads (Frame block ∷ h) = payloads h ++ drop 20 block
-payloads (Report block ∷ h) = payloads h
-payloads (Slot slot cut ∷ h) = payloads h
+payloads (event ∷ h) = payloads h
 
 -- the greatest slot that was received; 0 where there was none
 abbrev pub last_slot : History → ℕ
 last_slot [] = 0
-last_slot (Reply message ∷ h) = last_slot h
-last_slot (Frame block ∷ h) = last_slot h
-last_slot (Report block ∷ h) = last_slot h
 last_slot (Slot slot cut ∷ h) = max slot (last_slot h)
+last_slot (event ∷ h) = last_slot h
 
 -- the session that the first reply names
 abbrev pub session : History → List ℕ
 session [] = []
 session (Reply message ∷ h) = if replies h == 0
     then unwrap_or (setup_session message) [] else session h
-session (Frame block ∷ h) = session h
-session (Report block ∷ h) = session h
-session (Slot slot cut ∷ h) = session h
+session (event ∷ h) = session h
 
 -- of the reply to PLAY: in how many slots the play starts, the greatest slot that was received
 -- before it, the film's end in milliseconds
 abbrev pub start : History → ℕ
 start [] = 0
 start (Reply message ∷ h) = if replies h == 1 then unwrap_or (play_start message) 0 else start h
-start (Frame block ∷ h) = start h
-start (Report block ∷ h) = start h
-start (Slot slot cut ∷ h) = start h
+start (event ∷ h) = start h
 
 abbrev pub slot_before : History → ℕ
 slot_before [] = 0
 slot_before (Reply message ∷ h) = if replies h == 1 then last_slot h else slot_before h
-slot_before (Frame block ∷ h) = slot_before h
-slot_before (Report block ∷ h) = slot_before h
-slot_before (Slot slot cut ∷ h) = slot_before h
+slot_before (event ∷ h) = slot_before h
 
 abbrev pub end_ms : History → ℕ
 end_ms [] = 0
 end_ms (Reply message ∷ h) = if replies h == 1 then unwrap_or (play_range message) 0 else end_ms h
-end_ms (Frame block ∷ h) = end_ms h
-end_ms (Report block ∷ h) = end_ms h
-end_ms (Slot slot cut ∷ h) = end_ms h
+end_ms (event ∷ h) = end_ms h
 
 -- the first frame, and the latest one
 abbrev pub first_frame : History → List ℕ
 first_frame [] = []
-first_frame (Reply message ∷ h) = first_frame h
 first_frame (Frame block ∷ h) = if frames h == 0 then block else first_frame h
-first_frame (Report block ∷ h) = first_frame h
-first_frame (Slot slot cut ∷ h) = first_frame h
+first_frame (event ∷ h) = first_frame h
 
 abbrev pub latest_frame : History → List ℕ
 latest_frame [] = []
-latest_frame (Reply message ∷ h) = latest_frame h
 latest_frame (Frame block ∷ h) = block
-latest_frame (Report block ∷ h) = latest_frame h
-latest_frame (Slot slot cut ∷ h) = latest_frame h
+latest_frame (event ∷ h) = latest_frame h

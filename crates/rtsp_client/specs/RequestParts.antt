@@ -6,45 +6,40 @@ use Rattle.interleave.specs.Elements.{IsFirst}
 use Rattle.interleave.specs.declared.elements.Step.TheVariants.{Request}
 use Rattle.rtsp_text.specs.Fields.{header_value}
 use Rattle.rtsp_text.specs.Grammar.{is_value_byte}
-use Rattle.rtsp_text.specs.Replies.{value_named}
+use Rattle.rtsp_text.specs.Replies.{Field, value_named}
 use Rattle.rtsp_text.specs.Requests.{IsRequest}
 use Rattle.rtsp_text.specs.RequestTexts.{RequestPieces, request_head}
 use Rattle.rtsp_client.specs.Requests.{film_url}
 use Rattle.rtsp_client.specs.declared.watch_request.Wish.{Wish}
 
+-- a request for a film's URL, without a body
+abbrev pub request_pieces : List ℕ → List ℕ → List Field → RequestPieces
+request_pieces method url fields = record { method = method; url = url; fields = fields; body = [] }
+
 -- SETUP of the film's video (section 10.4), on the channels 0 and 1 of the connection itself, with
 -- the client's buffer and start delay
 abbrev pub setup_parts : Wish → RequestPieces
-setup_parts wish = record {
-  method = codes "SETUP";
-  url = film_url wish ++ codes "/video";
-  fields = record { name = codes "CSeq"; value = codes "1" }
-      ∷ record { name = codes "Transport"; value = codes "RTP/AVP/TCP;unicast;interleaved=0-1" }
-      ∷ record { name = codes "x-Buffer"; value = decimal wish.buffer }
-      ∷ record { name = codes "x-Startup"; value = decimal wish.startup } ∷ [];
-  body = [];
-}
+setup_parts wish =
+    request_pieces (codes "SETUP") (film_url wish ++ codes "/video")
+    (record { name = codes "CSeq"; value = codes "1" }
+    ∷ record { name = codes "Transport"; value = codes "RTP/AVP/TCP;unicast;interleaved=0-1" }
+    ∷ record { name = codes "x-Buffer"; value = decimal wish.buffer }
+    ∷ record { name = codes "x-Startup"; value = decimal wish.startup } ∷ [])
 
 -- PLAY of the film from its beginning to its end (section 10.5), in a session
 abbrev pub play_parts : Wish → List ℕ → RequestPieces
-play_parts wish session = record {
-  method = codes "PLAY";
-  url = film_url wish;
-  fields = record { name = codes "CSeq"; value = codes "2" }
-      ∷ record { name = codes "Session"; value = session }
-      ∷ record { name = codes "Range"; value = codes "npt=0-" } ∷ [];
-  body = [];
-}
+play_parts wish session =
+    request_pieces (codes "PLAY") (film_url wish)
+    (record { name = codes "CSeq"; value = codes "2" }
+    ∷ record { name = codes "Session"; value = session }
+    ∷ record { name = codes "Range"; value = codes "npt=0-" } ∷ [])
 
 -- TEARDOWN of a session (section 10.7)
 abbrev pub teardown_parts : Wish → List ℕ → RequestPieces
-teardown_parts wish session = record {
-  method = codes "TEARDOWN";
-  url = film_url wish;
-  fields = record { name = codes "CSeq"; value = codes "3" }
-      ∷ record { name = codes "Session"; value = session } ∷ [];
-  body = [];
-}
+teardown_parts wish session =
+    request_pieces (codes "TEARDOWN") (film_url wish)
+    (record { name = codes "CSeq"; value = codes "3" }
+    ∷ record { name = codes "Session"; value = session } ∷ [])
 
 -- the id of a session that a header field may have, without blanks around it, of at most 1,024
 -- bytes (section 3.4 allows letters, digits and some signs)

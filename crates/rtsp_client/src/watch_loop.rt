@@ -8,8 +8,7 @@ ghost use Rattle.rtsp_client.specs.WatchCourses.{HasWatched};
 ghost use Rattle.rtsp_client.specs.Requests.{setup_text};
 ghost use Rattle.rtsp_client.specs.States.{new_state};
 ghost use Rattle.rtsp_client.specs.WatchRequests.{IsWish};
-ghost use Rattle.rtsp_client.specs.declared.watch_request.WatchEnd.TheVariants.{LinkFault};
-ghost use Rattle.rtsp_client.specs.declared.watch_request.WatchEnd.TheVariants.{SinkFault};
+ghost use Rattle.rtsp_client.specs.declared.watch_request.WatchEnd.{WatchEnd};
 
 use crate::clients::Client;
 use crate::watch_request::{WatchEnd, WatchFault, Wish};
@@ -29,8 +28,8 @@ pub fn watch<K: Link, O: Sink>(alloc: Global, wish: &Wish, link: &mut K, out: &m
     // faults: of the link or the output, only where its count rose
     ensures count { K.faults link.old ≤ K.faults link.new }
     ensures count_out { O.faults out.old ≤ O.faults out.new }
-    ensures link { result ≡ LinkFault → HasRisen (K.faults link.old) (K.faults link.new) }
-    ensures out { result ≡ SinkFault → HasRisen (O.faults out.old) (O.faults out.new) }
+    ensures link { result ≡ WatchEnd.LinkFault → HasRisen (K.faults link.old) (K.faults link.new) }
+    ensures out { result ≡ WatchEnd.SinkFault → HasRisen (O.faults out.old) (O.faults out.new) }
     // answers: what the events lead to, by the definition of a watching
     ensures watched { HasWatched wish.now result
         (K.told link.old) (K.told link.new) (O.written out.old) (O.written out.new) }

@@ -1,5 +1,8 @@
 //! What is to be watched, and what came of it.
 
+ghost use Rattle.std.specs.Prelude.{◌≡◌};
+ghost use Rattle.rtsp_client.specs.declared.watch_request.WatchEnd.{WatchEnd};
+
 use std::alloc::AllocError;
 use thiserror::Error;
 use vod_base::{LinkFault, NoMemory, SinkFault};
@@ -81,10 +84,7 @@ pub enum WatchEnd {
 }
 
 impl From<WatchFault> for WatchEnd {
-    ghost use Rattle.std.specs.Prelude.{◌≡◌};
-    ghost use Rattle.rtsp_client.specs.declared.watch_request.WatchEnd.TheVariants.{Fault};
-
-    ghost from_gives = { λ fault end. end ≡ Fault fault };
+    ghost from_gives = { λ fault end. end ≡ WatchEnd.Fault fault };
 
     fn from(fault: WatchFault) -> WatchEnd {
         WatchEnd::Fault(fault)
@@ -92,13 +92,7 @@ impl From<WatchFault> for WatchEnd {
 }
 
 impl From<LinkFault> for WatchEnd {
-    ghost use Rattle.std.specs.Prelude.{◌≡◌};
-    ghost use Rattle.rtsp_client.specs.declared.watch_request.WatchEnd.TheVariants.{
-      LinkFault as
-          LinkEnd,
-    };
-
-    ghost from_gives = { λ _ end. end ≡ LinkEnd };
+    ghost from_gives = { λ _ end. end ≡ WatchEnd.LinkFault };
 
     fn from(_fault: LinkFault) -> WatchEnd {
         WatchEnd::LinkFault
@@ -106,13 +100,7 @@ impl From<LinkFault> for WatchEnd {
 }
 
 impl From<SinkFault> for WatchEnd {
-    ghost use Rattle.std.specs.Prelude.{◌≡◌};
-    ghost use Rattle.rtsp_client.specs.declared.watch_request.WatchEnd.TheVariants.{
-      SinkFault as
-          SinkEnd,
-    };
-
-    ghost from_gives = { λ _ end. end ≡ SinkEnd };
+    ghost from_gives = { λ _ end. end ≡ WatchEnd.SinkFault };
 
     fn from(_fault: SinkFault) -> WatchEnd {
         WatchEnd::SinkFault
@@ -120,13 +108,7 @@ impl From<SinkFault> for WatchEnd {
 }
 
 impl From<NoMemory> for WatchEnd {
-    ghost use Rattle.std.specs.Prelude.{◌≡◌};
-    ghost use Rattle.rtsp_client.specs.declared.watch_request.WatchEnd.TheVariants.{
-      NoMemory as
-          MemoryEnd,
-    };
-
-    ghost from_gives = { λ _ end. end ≡ MemoryEnd };
+    ghost from_gives = { λ _ end. end ≡ WatchEnd.NoMemory };
 
     fn from(_fault: NoMemory) -> WatchEnd {
         WatchEnd::NoMemory
@@ -134,13 +116,7 @@ impl From<NoMemory> for WatchEnd {
 }
 
 impl From<AllocError> for WatchEnd {
-    ghost use Rattle.std.specs.Prelude.{◌≡◌};
-    ghost use Rattle.rtsp_client.specs.declared.watch_request.WatchEnd.TheVariants.{
-      NoMemory as
-          MemoryEnd,
-    };
-
-    ghost from_gives = { λ _ end. end ≡ MemoryEnd };
+    ghost from_gives = { λ _ end. end ≡ WatchEnd.NoMemory };
 
     fn from(_error: AllocError) -> WatchEnd {
         WatchEnd::NoMemory
