@@ -1,6 +1,6 @@
 -- A trace or film that the library holds has one plan, one verdict and one scan, and none where it is refused.
 use Rattle.std.proofs.Common.{◌≡◌, ℕ, ◌≤◌, ◌^◌, List, [], ◌∷◌, ◌++◌, length, take, map, Option}
-use Rattle.std.proofs.Common.{Some, inl, inr, refl, sym, ap, ◌∙◌, subst, arith}
+use Rattle.std.proofs.Common.{Some, inl, inr, sym, ap, ◌∙◌, subst, arith}
 use Rattle.std.proofs.lemmas.Grind.{same_number_lists}
 use Rattle.std.proofs.lemmas.List.{append_assoc, take_at, length-map, map-append, take-map, length-take}
 use Rattle.std.proofs.lemmas.List.Sums.{sum_by-take-le}
@@ -26,6 +26,7 @@ use Rattle.inputs.specs.Traces.{Token, tokens_from, WriteSizes, IsTraceText, IsB
 use Rattle.inputs.proofs.ReadLemmas.{one_file}
 use Rattle.inputs.proofs.VideoLemmas.{held_not_refused, held_once}
 use Rattle.cli_args.specs.Invocations.{PlanSource, trace_source, film_source, ClientParams}
+use Rattle.inputs.proofs.TraceLineLemmas.{same_somes}
 use Rattle.offline_commands.specs.OfflineCommands.{IsScanned}
 use Rattle.offline_commands.specs.Plans.{ArePictures, HasCurves, HoldsTrace, IsPlanned}
 use Rattle.offline_commands.specs.Plans.{IsSourceRefused, IsTraceRefused, IsPlanRefused, Pictures}
@@ -34,18 +35,9 @@ use Rattle.offline_commands.specs.ScanText.{scan_text}
 use Rattle.cli_errors.specs.declared.errors.InputError.{InputError}
 use Rattle.cli_errors.specs.declared.errors.InputError.TheVariants.{BadTrace, Curves}
 
-some_once : (xs ys : List ℕ) → map (λ (x : ℕ). Some x) xs ≡ map (λ (x : ℕ). Some x) ys → xs ≡ ys
-some_once [] [] e = refl
-some_once [] (y ∷ ys) e = cc
-some_once (x ∷ xs) [] e = cc
-some_once (x ∷ xs) (y ∷ ys) e =
-    let first : x ≡ y = cc in
-    let rest : map (λ (x : ℕ). Some x) xs ≡ map (λ (x : ℕ). Some x) ys = cc in
-    ap (λ (n : ℕ). n ∷ xs) first ∙ ap (λ (ns : List ℕ). y ∷ ns) (some_once xs ys rest)
-
 pub trace_once : (held : List File) (name xs ys : List ℕ) → HoldsTrace held name xs → HoldsTrace held name ys → xs ≡ ys
 trace_once held name xs ys p q =
-    some_once xs ys (sym p.trace.numbers
+    same_somes xs ys (sym p.trace.numbers
     ∙ ap (λ (t : List ℕ). map (λ (token : Token). number_of token.bytes) (tokens_from 0 t))
     (one_file held name p.text q.text p.found q.found)
     ∙ q.trace.numbers)

@@ -93,6 +93,10 @@ record FilmCounts : Type 0 where
   rate_fits : rate < 2 ^ 64
   pictures_fit : pictures < 2 ^ 64
 
+abbrev film_counts : {bytes rate pictures : ℕ} → bytes < 2 ^ 64 → rate < 2 ^ 64 → pictures < 2 ^ 64 → FilmCounts
+film_counts {bytes} {rate} {pictures} b r p =
+    record { bytes = bytes; rate = rate; pictures = pictures; bytes_fit = b; rate_fits = r; pictures_fit = p }
+
 film-value : (counts : FilmCounts) (key : List ℕ) (number : ℕ) → setting_value key (codes "film") ≡ None →
     picked key (film_settings counts.bytes counts.rate counts.pictures) ≡ decimal number ∷ [] →
     are_plain (film_settings counts.bytes counts.rate counts.pictures) ≡ true →
@@ -113,14 +117,7 @@ pub film-told : (bytes rate pictures : ℕ) → bytes < 2 ^ 64 → rate < 2 ^ 64
     → LineShowsFilm bytes rate pictures (film_line bytes rate pictures)
 unfolding film_settings
 film-told bytes rate pictures few short little =
-    let counts : FilmCounts = record {
-      bytes = bytes;
-      rate = rate;
-      pictures = pictures;
-      bytes_fit = few;
-      rate_fits = short;
-      pictures_fit = little;
-    } in
+    let counts = film_counts few short little in
     record {
       bytes_told = film-value counts (codes "bytes") bytes refl refl refl;
       rate_told = film-value counts (codes "rate") rate refl refl refl;
@@ -327,10 +324,13 @@ group-mark true false = refl
 group-mark false true = refl
 group-mark false false = refl
 
+-- the words of a unit's line
+abbrev unit_words : ℕ → PictureUnit → List (List ℕ)
+unit_words number u =
+    decimal number ∷ kind_text u.kind ∷ (map setting_text (unit_settings u) ++ mark_words u.has_sequence u.starts_group)
+
 sequence-shown : (number : ℕ) (u : PictureUnit) → number < 2 ^ 64 →
-    list_any (bytes_eq (codes "sequence"))
-    (decimal number ∷ kind_text u.kind
-    ∷ (map setting_text (unit_settings u) ++ mark_words u.has_sequence u.starts_group)) ≡ u.has_sequence
+    list_any (bytes_eq (codes "sequence")) (unit_words number u) ≡ u.has_sequence
 unfolding unit_settings
 sequence-shown number u few =
     shown-at (codes "sequence") number u
@@ -338,9 +338,7 @@ sequence-shown number u few =
     ∙ sequence-mark u.has_sequence u.starts_group
 
 group-shown : (number : ℕ) (u : PictureUnit) → number < 2 ^ 64 →
-    list_any (bytes_eq (codes "group"))
-    (decimal number ∷ kind_text u.kind
-    ∷ (map setting_text (unit_settings u) ++ mark_words u.has_sequence u.starts_group)) ≡ u.starts_group
+    list_any (bytes_eq (codes "group")) (unit_words number u) ≡ u.starts_group
 unfolding unit_settings
 group-shown number u few =
     shown-at (codes "group") number u

@@ -185,16 +185,7 @@ unit_told {unit} {other} xs ys shorts e =
     let to = field_cut (codes "slices=") short.to short'.to head.rest in
     let end = ends_told short.slices short'.slices to.rest in
     record {
-      alike = record {
-        kind = kind;
-        presentation = show.number;
-        from = from.number;
-        head_end = head.number;
-        to = to.number;
-        slices = end.number;
-        sequence = end.marked.sequence_is;
-        group = end.marked.group_is;
-      };
+      alike = assumption (kind, show.number, from.number, head.number, to.number, end.number, end.marked);
       rest = end.marked.rest;
     }
   where
@@ -253,6 +244,11 @@ pub record ScannedFilm : Type 0 where
   pub rate_fits : rate < 2 ^ 64
   pub units_fit : length units < 2 ^ 64
   pub short : All IsShortUnit units
+
+abbrev pub scanned_film : {bytes rate : ℕ} (units : List PictureUnit) → bytes < 2 ^ 64 → rate < 2 ^ 64 →
+    length units < 2 ^ 64 → All IsShortUnit units → ScannedFilm
+scanned_film {bytes} {rate} units b r n short =
+    record { bytes = bytes; rate = rate; units = units; bytes_fit = b; rate_fits = r; units_fit = n; short = short }
 
 pub scan_told : (scanned other : ScannedFilm) →
     scan_text scanned.bytes scanned.rate scanned.units ≡ scan_text other.bytes other.rate other.units →

@@ -41,13 +41,7 @@ fault_at kind n =
 
 fault_is : (fault : CertFault) → fault_at (kind_of fault) (unwrap_or (fault_number fault) 0) ≡ fault
 fault_is (EmptySegment i) = refl
-fault_is WrongLength = refl
-fault_is WrongTotal = refl
-fault_is (BelowLow t) = refl
-fault_is (AboveUp t) = refl
-fault_is (EqualSlopes i) = refl
-fault_is (RiseOffUpper i) = refl
-fault_is (FallOffLower i) = refl
+fault_is _ = refl
 
 same_kind : {from : ℕ} {low up : List ℕ} {segments : List Segment} {f g : CertFault} →
     IsFirstFault from low up segments f → IsFirstFault from low up segments g →
@@ -91,9 +85,10 @@ pub checked_once : {held : List File} {viewer : ClientParams} {cert : List ℕ} 
     (status ≡ status') × (text ≡ text')
 checked_once {held} {viewer} {cert} {status'} {text'} p q =
     let same : AreSame q.curves p.curves = curves_once held viewer q.curves p.curves q.has p.has in
-    let one : q.written ≡ p.written = one_file held cert q.written p.written q.found p.found in
+    let one : q.read.written ≡ p.read.written = one_file held cert _ _ q.read.found p.read.found in
     let segments : q.segments ≡ p.segments = one_certificate
-    (subst (λ (t : List ℕ). IsCertificate t q.slots q.bytes q.segments) one q.certificate) p.certificate in
+    (subst (λ (t : List ℕ). IsCertificate t q.read.slots q.read.bytes q.segments) one q.read.certificate)
+    p.read.certificate in
     verdict_once p.curves.from p.curves.low.items p.curves.up.items p.segments p.verdict
     (subst (λ (s : List Segment). IsVerdict p.curves.from p.curves.low.items p.curves.up.items s status' text') segments
     (subst (λ (from : ℕ). IsVerdict from p.curves.low.items p.curves.up.items q.segments status' text') same.from
@@ -116,6 +111,6 @@ pub checked_not_refused : {held : List File} {viewer : ClientParams} {cert : Lis
 checked_not_refused {held} {viewer} name fault p (inl refused) =
     curves_not_refused held viewer p.curves fault p.has refused.1
 checked_not_refused {held} {cert} name fault p (inr refused) = elim refused.1.1 [
-  | inl missing ↦ none-some p.written (sym missing.1 ∙ p.found)
-  | inr bad ↦ cert_not_refused held cert fault p.found p.certificate bad
+  | inl missing ↦ none-some p.read.written (sym missing.1 ∙ p.read.found)
+  | inr bad ↦ cert_not_refused held cert fault p.read.found p.read.certificate bad
 ]

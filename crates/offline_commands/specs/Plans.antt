@@ -129,18 +129,21 @@ IsVerdict from low up segments status text =
     × ((status ≡ 1) × IsFirstFault from low up segments fault
     × (text ≡ refused_line fault)))
 
--- the verdict on the segments of the certificate that the library holds, under the curves of the
--- trace or film
-pub record IsChecked (held : List File) (viewer : ClientParams) (cert : List ℕ) (status : ℕ)
-    (text : List ℕ) : Type 0 where
-  pub curves : CurvePair
-  pub has : HasCurves held viewer curves
+-- the segments of the certificate that the library holds
+pub record HasSegments (held : List File) (cert : List ℕ) (segments : List Segment) : Type 0 where
   pub written : List ℕ
   pub found : file_named held cert ≡ Some written
   pub slots : ℕ
   pub bytes : ℕ
-  pub segments : List Segment
   pub certificate : IsCertificate written slots bytes segments
+
+-- the verdict on those segments, under the curves of the trace or film
+pub record IsChecked (held : List File) (viewer : ClientParams) (cert : List ℕ) (status : ℕ)
+    (text : List ℕ) : Type 0 where
+  pub curves : CurvePair
+  pub has : HasCurves held viewer curves
+  pub segments : List Segment
+  pub read : HasSegments held cert segments
   pub verdict : IsVerdict curves.from curves.low.items curves.up.items segments status text
 
 -- its text is no certificate

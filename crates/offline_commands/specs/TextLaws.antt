@@ -33,12 +33,9 @@ pub record IsShortScan (size rate : ℕ) (units : List PictureUnit) : Type 0 whe
 pub record AreAlike (unit other : PictureUnit) : Type 0 where
   pub kind : unit.kind ≡ other.kind
   pub presentation : unit.presentation ≡ other.presentation
-  pub from : unit.from ≡ other.from
-  pub head_end : unit.head_end ≡ other.head_end
-  pub to : unit.to ≡ other.to
+  pub places : (unit.from ≡ other.from) × (unit.head_end ≡ other.head_end) × (unit.to ≡ other.to)
   pub slices : unit.slices ≡ other.slices
-  pub sequence : unit.has_sequence ≡ other.has_sequence
-  pub group : unit.starts_group ≡ other.starts_group
+  pub headers : (unit.has_sequence ≡ other.has_sequence) × (unit.starts_group ≡ other.starts_group)
 
 -- the words of a line, parted by blanks and by its end
 abbrev pub words_in : List ℕ → List (List ℕ)

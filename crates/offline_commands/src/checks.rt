@@ -1,13 +1,17 @@
 //! The command `check`: the verdict on a certificate.
 
-ghost use Rattle.std.specs.Prelude.{◌≡◌, ◌++◌, codes, IfOk, IfErr, OnOk};
+ghost use Rattle.std.specs.Prelude.{◌≡◌, None, IfOk, IfErr, OnOk};
 ghost use Rattle.cli_args.specs.Invocations.{check_of};
 ghost use Rattle.cli_args.specs.InvocationViews.{client_params_of};
 ghost use Rattle.cli_args.specs.Ranges.{IsClientInRange};
 ghost use Rattle.cli_errors.specs.ReadErrors.{IsReadOnly, IsReadError};
+ghost use Rattle.wire_curve.specs.SoundCurves.{AreSound};
+ghost use Rattle.offline_commands.specs.Plans.{IsVerdict};
 ghost use Rattle.offline_commands.specs.OfflineCommands.{IsOutputOf, IsInputRefused, IsRead};
+ghost use Rattle.offline_commands.specs.OfflineCommands.{IsVerdictLine};
 ghost use Rattle.offline_commands.specs.TextLaws.{IsShortFault};
-ghost use Rattle.offline_commands.specs.VerdictText.{IsFaultText, cert_fault_text};
+ghost use Rattle.offline_commands.specs.VerdictText.{IsFaultText, refused_line};
+ghost use Rattle.cli_errors.specs.declared.errors.CliError.{CliError};
 
 use crate::command_output::{CommandOutput, output_with_text};
 use crate::curves::client_curves;
@@ -15,9 +19,10 @@ use cert_check::{CertFault, check};
 use cli_args::ClientParams;
 use cli_errors::{CliError, InputError};
 use inputs::read_input;
-use plan_cert::{CertRead, read_cert};
+use plan_cert::{CertRead, Segment, read_cert};
 use std::alloc::Global;
 use vod_base::{Library, NoMemory, push_number};
+use wire_curve::Curves;
 
 /// Returns the verdict on a certificate of a trace or film.
 ///
@@ -50,7 +55,23 @@ pub fn check_plan<'a, L: Library>(
         }
         Err(CertRead::NoMemory) => return Err(CliError::NoMemory),
     };
-    match check(&curves, &certificate.segments) {
+    verdict_output(alloc, &curves, &certificate.segments)
+}
+
+/// The verdict on segments.
+fn verdict_output<'a>(
+    alloc: Global,
+    curves: &Curves,
+    segments: &[Segment],
+) -> Result<CommandOutput, CliError<'a>>
+    requires { AreSound curves.now.from curves.now.low.items curves.now.up.items }
+    ensures done { IfOk result (λ done. IsVerdictLine done.status done.text.items
+        × (done.plan ≡ None)
+        × IsVerdict curves.now.from curves.now.low.items curves.now.up.items segments.now
+        done.status done.text.items) }
+    ensures error { IfErr result (λ error. error ≡ CliError.NoMemory) }
+{
+    match check(curves, segments) {
         Ok(()) => output_with_text(0, Vec::from_slice(alloc, b"least\n")),
         // A refused certificate is a result and no error. So it goes to the output, with status 1.
         Err(fault) => output_with_text(1, refusal_text(alloc, &fault)),
@@ -76,8 +97,7 @@ fn cert_fault_parts(fault: &CertFault) -> (&'static str, Option<u64>)
 
 /// The line that names the fault of a certificate.
 fn refusal_text(alloc: Global, fault: &CertFault) -> Result<Vec<u8>, NoMemory>
-    ensures text { IfOk result (λ text. text.items ≡
-        codes "refused " ++ cert_fault_text fault.now ++ codes "\n") }
+    ensures text { IfOk result (λ text. text.items ≡ refused_line fault.now) }
     ensures short { OnOk result (IsShortFault fault.now) }
 {
     let mut text = Vec::from_slice(alloc, b"refused ")?;

@@ -1,16 +1,15 @@
 //! What `day` and `fair` read and run.
 
-ghost use Rattle.std.specs.Prelude.{◌≡◌, ◌≤◌, Some, List, ℕ, All, length, IfOk, IfErr, OnOk};
+ghost use Rattle.std.specs.Prelude.{◌≡◌, Some, List, ℕ, All, length, IfOk, IfErr, OnOk};
 ghost use Rattle.std.specs.List.{Contains};
 ghost use Rattle.vod_base.specs.IoState.{File};
 ghost use Rattle.admission.specs.Histories.{IsLegal};
 ghost use Rattle.cli_args.specs.Ranges.{IsFairRunInRange, IsScriptRunInRange};
 ghost use Rattle.day_run.specs.DayLaws.{IsLink};
-ghost use Rattle.day_script.specs.Scripts.{AreClients};
+ghost use Rattle.day_script.specs.Scripts.{AreClients, AreLines};
 ghost use Rattle.day_run.specs.Days.{IsDay, link_of};
 ghost use Rattle.day_run.specs.FairDays.{IsFair};
 ghost use Rattle.day_script.specs.ScriptReading.{HasGoodName};
-ghost use Rattle.day_script.specs.Scripts.{AreLines};
 ghost use Rattle.day_run.specs.Sources.{AreSources, IsSource};
 ghost use Rattle.cli_errors.specs.ReadErrors.{IsReadOnly, IsReadError};
 ghost use Rattle.day_run.specs.declared.media.Source.{Source};

@@ -1,12 +1,11 @@
 //! Writes the text that `scan` prints: a line for the film, and one for each of its units.
 
-ghost use Rattle.std.specs.Prelude.{◌≡◌, ◌+◌, ◌*◌, ◌<◌, ◌≤◌, ◌^◌, ◌++◌, ℕ, List, Option, Bool};
-ghost use Rattle.std.specs.Prelude.{All, codes, drop, length, vec_len, IfOk};
+ghost use Rattle.std.specs.Prelude.{◌≡◌, ◌+◌, ◌*◌, ◌<◌, ◌≤◌, ◌^◌, ◌++◌, ℕ, List, Option, All};
+ghost use Rattle.std.specs.Prelude.{codes, drop, length, vec_len, IfOk};
 ghost use Rattle.cli_errors.specs.StreamWrites.{IsTextWritten};
-ghost use Rattle.offline_commands.specs.ScanText.{kind_text, unit_name, unit_places};
-ghost use Rattle.offline_commands.specs.ScanText.{unit_marks, unit_line, unit_lines, film_line};
-ghost use Rattle.offline_commands.specs.ScanText.{scan_text};
-ghost use Rattle.offline_commands.specs.TextLaws.{IsShortScan, IsShortUnit};
+ghost use Rattle.offline_commands.specs.ScanText.{kind_text, unit_name, unit_places, unit_marks};
+ghost use Rattle.offline_commands.specs.ScanText.{unit_line, unit_lines, film_line};
+ghost use Rattle.offline_commands.specs.TextLaws.{IsShortUnit};
 
 use crate::line_parts::{write_field, write_number, write_text, write_text_if};
 use mpeg_scan::{Kind, Unit};

@@ -10,10 +10,8 @@ use Rattle.offline_commands.proofs.curves.client_curves.Goals as goal
 
 pub returns-in_err-pictures-clause-error : goal.returns-in_err-pictures-clause-error
 returns-in_err-pictures-clause-error g c =
-    handed_on _ c.from_residual.result c.from_residual.ensures.1
-    (read_trouble_map _ _ c.in_err-pictures.field-0.0 (λ name is. is)
-    (λ held name fault told is refused. inl refused)
-    ((c.in_err-pictures.ensures {u = tt}).error))
+    handed_on _ c.from_residual.result c.from_residual.ensures.1 (read_trouble_map _ _ c.in_err-pictures.field-0.0
+    (λ name is. is) (λ held name fault told is refused. inl refused) ((c.in_err-pictures.ensures {u = tt}).error))
 
 pub film_curves-requires : goal.film_curves-requires
 film_curves-requires g c =

@@ -1,6 +1,6 @@
 use Rattle.std.proofs.Common.{rules, ◌∙◌, arith}
 use Rattle.std.specs.List.{Contains}
-use Rattle.cli_errors.proofs.ReadErrorLemmas.{trouble_map}
+use Rattle.cli_errors.proofs.ReadErrorLemmas.{causes_of, trouble_map}
 use Rattle.offline_commands.specs.Days.{IsFirstNamedRefused, IsNameOf, IsNamedRefused, names_in}
 use Rattle.inputs.proofs.ScanLemmas.{handed_on}
 use Rattle.offline_commands.proofs.DayLemmas.{first_named_refused, held_push, held_whole, named_contains, sources_push}
@@ -9,20 +9,12 @@ use Rattle.offline_commands.proofs.days.load_sources.Goals as goal
 pub returns-in_err-source-clause-error : goal.returns-in_err-source-clause-error
 returns-in_err-source-clause-error g c =
     handed_on _ c.from_residual.result c.from_residual.ensures.1
-    (trouble_map (record {
-      Reads = IsNameOf c.one-item.result;
-      Refuses = IsNamedRefused c.one-item.result;
-      told = g.L.Library.files c.loop-one.library;
-      before = g.L.Library.faults c.loop-one.library;
-      after = g.L.Library.faults c.load_source.new.library;
-    })
-    (record {
-      Reads = Contains (names_in c.args.named.now);
-      Refuses = IsFirstNamedRefused c.args.named.now;
-      told = g.L.Library.files c.args.library.now;
-      before = g.L.Library.faults c.args.library.now;
-      after = g.L.Library.faults c.load_source.new.library;
-    })
+    (trouble_map (causes_of (IsNameOf c.one-item.result) (IsNamedRefused c.one-item.result)
+    (g.L.Library.files c.loop-one.library) (g.L.Library.faults c.loop-one.library)
+    (g.L.Library.faults c.load_source.new.library))
+    (causes_of (Contains (names_in c.args.named.now)) (IsFirstNamedRefused c.args.named.now)
+    (g.L.Library.files c.args.library.now) (g.L.Library.faults c.args.library.now)
+    (g.L.Library.faults c.load_source.new.library))
     c.in_err-source.field-0.0
     (record {
       reads = λ name is. named_contains c.args.named.now c.loop-one.one-index c.loop-one-test.true c.one-item.is is;
