@@ -407,17 +407,18 @@ watched_with wish h plays = record (watched_in wish h) { reports = cond plays (r
 
 report-state : {x : KeptState} {b : List ℕ} (play : Option Play) → StateInvariant x.wish x.history x.state
     → IsPlayOf play x.history → StateInvariant x.wish (Report b ∷ x.history) (report_in play x.state (length b))
-report-state {x} {b} None k is = record {
-  last_slot_is = k.last_slot_is;
-  play_is = play-on s.play (Report b) h tt k.play_is;
-  source_is = source-on s.source (Report b) h tt k.source_is;
-  begun = k.begun;
-  inside = k.inside;
-  ends_are = k.ends_are;
-  received_is = k.received_is ∙ sym (ap (received_with h b) is);
-  taken_is = k.taken_is ∙ sym (ap (λ c. sum (sizes h) + pending_with h b c (is_inside h)) is);
-  watched_is = k.watched_is ∙ sym (ap (watched_with wish h) is);
-}
+report-state {x} {b} None k is =
+    let received = k.received_is ∙ sym (ap (received_with h b) is) in
+    let taken = k.taken_is ∙ sym (ap (λ c. sum (sizes h) + pending_with h b c (is_inside h)) is) in
+    let watched = k.watched_is ∙ sym (ap (watched_with wish h) is) in
+    assumption (
+      received,
+      taken,
+      watched,
+      play-on s.play (Report b) h tt k.play_is,
+      source-on s.source (Report b) h tt k.source_is,
+      k,
+    )
   where
     open x use {wish, history as h, state as s}
 report-state {x} {b} (Some play) k is = record {

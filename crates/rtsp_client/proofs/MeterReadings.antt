@@ -218,17 +218,14 @@ read-at {x} slot reads =
 slot-with : {x : KeptState} {last : ℕ} {w : Watched} (s : SlotAt x) → last ≡ max s.t (last_slot x.history)
     → w ≡ watched_in x.wish (history_at s)
     → StateInvariant x.wish (history_at s) (record x.state { last_slot = last; watched = w })
-slot-with {x} s greatest is = record {
-  last_slot_is = greatest;
-  play_is = play-on x.state.play (Slot s.t s.cut) x.history tt k.play_is;
-  source_is = source-on x.state.source (Slot s.t s.cut) x.history tt k.source_is;
-  begun = k.begun;
-  inside = k.inside;
-  ends_are = k.ends_are;
-  received_is = k.received_is;
-  taken_is = k.taken_is;
-  watched_is = is;
-}
+slot-with {x} s greatest is =
+    assumption (
+      greatest,
+      play-on x.state.play (Slot s.t s.cut) x.history tt k.play_is,
+      source-on x.state.source (Slot s.t s.cut) x.history tt k.source_is,
+      is,
+      k,
+    )
   where
     open s use {keeps as k}
 

@@ -12,6 +12,7 @@ pub mod WatchRequests
 pub mod ClientState
 pub mod Answers
 pub mod WatchCourses
+pub mod WatchStart
 pub mod HistoryInvariant
 pub mod ClientSteps
 pub mod MeterGuarantee

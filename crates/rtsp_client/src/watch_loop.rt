@@ -1,12 +1,10 @@
 //! A film watched from the first request to the last reply.
 
-ghost use Rattle.std.specs.Prelude.{◌≡◌, ◌≤◌, List, [], Option, None};
-ghost use Rattle.vod_base.specs.Links.{IoEvent, sends, told_more};
+ghost use Rattle.std.specs.Prelude.{◌≡◌, ◌≤◌};
 ghost use Rattle.vod_base.specs.IoState.{HasRisen};
 ghost use Rattle.rtsp_client.specs.Causes.{HasCause};
 ghost use Rattle.rtsp_client.specs.WatchCourses.{HasWatched};
-ghost use Rattle.rtsp_client.specs.Requests.{setup_text};
-ghost use Rattle.rtsp_client.specs.States.{new_state};
+ghost use Rattle.rtsp_client.specs.WatchStart.{HasWatchedOn, IsNewClient};
 ghost use Rattle.rtsp_client.specs.WatchRequests.{IsWish};
 ghost use Rattle.rtsp_client.specs.declared.watch_request.WatchEnd.{WatchEnd};
 
@@ -52,16 +50,13 @@ fn hear_all<K: Link, O: Sink>(
 ) -> WatchEnd
     // needs: a client that has sent SETUP and received nothing
     requires wish { IsWish wish.now }
-    requires new { client.old.watching ≡ new_state }
-    requires empty { client.old.input ≡ [] }
-    requires session { client.old.session ≡ None }
+    requires new { IsNewClient client.old }
     // fails: only where the link or the output counted a fault
     ensures count { K.faults link.old ≤ K.faults link.new }
     ensures count_out { O.faults out.old ≤ O.faults out.new }
     // answers: what the course of the client says
-    ensures watched { (told : Option (List IoEvent)) →
-        K.told link.old ≡ told_more told (sends (setup_text wish.now)) →
-        HasWatched wish.now result told (K.told link.new) (O.written out.old) (O.written out.new) }
+    ensures watched { HasWatchedOn wish.now result
+        (K.told link.old) (K.told link.new) (O.written out.old) (O.written out.new) }
     ensures cause { HasCause result (K.faults link.old) (K.faults link.new) (O.faults out.old)
         (O.faults out.new) }
 {

@@ -7,11 +7,11 @@ use Rattle.rtsp_client.proofs.watch_loop.hear_all.Goals as goal
 
 pub events-init : goal.events-init
 events-init g c = (
-  omega (arith, ap length c.requires.empty, ap (λ (s : State). s.received) c.requires.new),
-  omega (arith, ap length c.requires.empty),
-  inl (ap length c.requires.empty),
+  omega (arith, ap length c.requires.new.empty, ap (λ (s : State). s.received) c.requires.new.new),
+  omega (arith, ap length c.requires.new.empty),
+  inl (ap length c.requires.new.empty),
   run-none
-      c.requires.session c.requires.new c.requires.empty,
+      c.requires.new.session c.requires.new.new c.requires.new.empty,
   omega arith,
   omega arith,
 )

@@ -1,4 +1,4 @@
-use Rattle.std.proofs.Common.{◌<◌, Ok, drop, length, refl, ap, subst, sym, ◌∙◌, arith, inr}
+use Rattle.std.proofs.Common.{◌≡◌, ◌<◌, ◌≤◌, ◌+◌, ℕ, List, Ok, drop, length, refl, ap, subst, sym, ◌∙◌, arith, inr}
 use Rattle.std.proofs.lemmas.List.{length-drop}
 use Rattle.interleave.specs.Elements.{IsFirst}
 use Rattle.interleave.specs.declared.elements.Step.TheVariants.{Block, Request, Skip}
@@ -6,6 +6,10 @@ use Rattle.rtsp_text.proofs.WholeRequests.{fewer, first_is, some_request}
 use Rattle.rtsp_client.proofs.ElementSteps.{block-element, frame-element, keeps-moved, reply-element}
 use Rattle.rtsp_client.proofs.ElementSteps.{stop-here, stopped-framing, taken-element, taken-ends, taken-none}
 use Rattle.rtsp_client.proofs.clients.Client.process_next.Goals as goal
+
+-- what is left of bytes whose front was dropped
+less : {new : List ℕ} (old : List ℕ) (n : ℕ) → n ≤ length old → new ≡ drop n old → length new + n ≡ length old
+less old n within is = omega (arith, within, ap length is, length-drop n old)
 
 pub returns-in-Err-clause-stopped : goal.returns-in-Err-clause-stopped
 returns-in-Err-clause-stopped g c = λ h k.
@@ -87,14 +91,9 @@ pub returns-in_ok-take_block-in-Ok-Block-clause-few : goal.returns-in_ok-take_bl
 returns-in_ok-take_block-in-Ok-Block-clause-few g c =
     let first : IsFirst c.args.self.now.input (Ok (Block c.in-Ok-Block.channel c.in-Ok-Block.length)) =
     first_is c.in-Ok-Block.ensures.first refl c.in-Ok-Block.field-0-is in
-    omega (
-      arith,
-      c.in_ok-take_block-in-Ok-Block.ensures.few,
-      first.4,
-      ap length (c.drop_front-in-Ok-Block.ensures
-          ∙ ap (drop c.in-Ok-Block.length) (c.take_block.ensures.input ∙ c.look.ensures.waiting)),
-      length-drop c.in-Ok-Block.length c.args.self.now.input,
-    )
+    let rest = less c.args.self.now.input c.in-Ok-Block.length first.4 (c.drop_front-in-Ok-Block.ensures
+    ∙ ap (drop c.in-Ok-Block.length) (c.take_block.ensures.input ∙ c.look.ensures.waiting)) in
+    omega (arith, c.in_ok-take_block-in-Ok-Block.ensures.few, rest)
 
 pub returns-in_ok-take_block-in-Ok-Block-clause-shorter : goal.returns-in_ok-take_block-in-Ok-Block-clause-shorter
 returns-in_ok-take_block-in-Ok-Block-clause-shorter g c =
@@ -109,14 +108,9 @@ pub returns-in_ok-take_reply-in-Ok-Request-clause-few : goal.returns-in_ok-take_
 returns-in_ok-take_reply-in-Ok-Request-clause-few g c =
     let first : IsFirst c.args.self.now.input (Ok (Request c.in-Ok-Request.length)) =
     first_is c.in-Ok-Request.ensures.first refl c.in-Ok-Request.field-0-is in
-    omega (
-      arith,
-      c.take_reply.ensures.few,
-      first.2,
-      ap length (c.drop_front-in-Ok-Request.ensures
-          ∙ ap (drop c.in-Ok-Request.length) (c.take_reply.ensures.input ∙ c.look.ensures.waiting)),
-      length-drop c.in-Ok-Request.length c.args.self.now.input,
-    )
+    let rest = less c.args.self.now.input c.in-Ok-Request.length first.2 (c.drop_front-in-Ok-Request.ensures
+    ∙ ap (drop c.in-Ok-Request.length) (c.take_reply.ensures.input ∙ c.look.ensures.waiting)) in
+    omega (arith, c.take_reply.ensures.few, rest)
 
 pub returns-in_ok-take_reply-in-Ok-Request-clause-shorter : goal.returns-in_ok-take_reply-in-Ok-Request-clause-shorter
 returns-in_ok-take_reply-in-Ok-Request-clause-shorter g c =

@@ -61,15 +61,13 @@ returns-in_default-clause-ended g c = λ h k.
 pub returns-in_err-add_frame-clause-ended : goal.returns-in_err-add_frame-clause-ended
 returns-in_err-add_frame-clause-ended g c =
     let p = err_from_is_err_and c.from_residual.result c.from_residual.ensures.1 in
-    rw (p.1, p.2)
-    (λ h k.
+    rw (p.1, p.2) (λ h k.
     frame-starved (found g (goal.at.returns-in_err-add_frame-clause-ended g c).After-add_frame h k))
 
 pub returns-in_err-write_all-clause-ended : goal.returns-in_err-write_all-clause-ended
 returns-in_err-write_all-clause-ended g c =
     let p = err_from_is_err_and c.from_residual-in_err-write_all.result c.from_residual-in_err-write_all.ensures.1 in
-    rw (p.1, p.2)
-    (λ h k.
+    rw (p.1, p.2) (λ h k.
     frame-cut (found g (goal.at.returns-in_err-write_all-clause-ended g c).After-add_frame h k)
     (subst (IsWrittenPrefix (g.O.Sink.written c.args.out.now) (g.O.Sink.written c.write_all.new.self))
     (payload-here c.args.self.now c.args.length c.waiting.ensures) c.in_err-write_all.ensures.front))
@@ -83,16 +81,14 @@ returns-then-not-is_complete-clause-passed g c = λ h k.
 pub returns-in_err-request-clause-ended : goal.returns-in_err-request-clause-ended
 returns-in_err-request-clause-ended g c =
     let p = err_from_is_err_and c.from_residual-in_err-request.result c.from_residual-in_err-request.ensures.1 in
-    rw (p.1, p.2)
-    (λ h k.
+    rw (p.1, p.2) (λ h k.
     teardown-starved (found g (goal.at.returns-in_err-request-clause-ended g c).After-add_frame h k)
     (observed-handed _ _ _ (handed g (goal.at.returns-in_err-request-clause-ended g c).After-is_complete)))
 
 pub returns-in_err-send-clause-ended : goal.returns-in_err-send-clause-ended
 returns-in_err-send-clause-ended g c =
     let p = err_from_is_err_and c.from_residual-in_err-send.result c.from_residual-in_err-send.ensures.1 in
-    rw (p.1, p.2)
-    (λ h k.
+    rw (p.1, p.2) (λ h k.
     let at = (goal.at.returns-in_err-send-clause-ended g c).After-is_complete in
     let all : has_all c.add_frame.new.self ≡ true = search rules in
     let text : c.as_slice.result.now ≡ teardown_text c.args.wish.now (session_of c.args.self.now) = search rules in

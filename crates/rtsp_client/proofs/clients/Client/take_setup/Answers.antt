@@ -43,22 +43,19 @@ returns-in_err-session-clause-ended g c =
 pub returns-in_err-request-clause-ended : goal.returns-in_err-request-clause-ended
 returns-in_err-request-clause-ended g c =
     let p = err_from_is_err_and c.from_residual-in_err-request.result c.from_residual-in_err-request.ensures.1 in
-    rw (p.1, p.2)
-    (λ out h k.
+    rw (p.1, p.2) (λ out h k.
     setup-starved (reply g (goal.at.returns-in_err-request-clause-ended g c).After-play_request h k))
 
 pub returns-in_err-kept-clause-ended : goal.returns-in_err-kept-clause-ended
 returns-in_err-kept-clause-ended g c =
     let p = err_from_is_err_and c.from_residual-in_err-kept.result c.from_residual-in_err-kept.ensures.1 in
-    rw (p.1, p.2)
-    (λ out h k.
+    rw (p.1, p.2) (λ out h k.
     setup-starved (reply g (goal.at.returns-in_err-kept-clause-ended g c).After-play_request h k))
 
 pub returns-in_err-send-clause-ended : goal.returns-in_err-send-clause-ended
 returns-in_err-send-clause-ended g c =
     let p = err_from_is_err_and c.from_residual-in_err-send.result c.from_residual-in_err-send.ensures.1 in
-    rw (p.1, p.2)
-    (λ out h k.
+    rw (p.1, p.2) (λ out h k.
     let text : c.as_slice.result.now ≡ play_text c.args.wish.now c.in_ok-session.session.now =
     c.as_slice.ensures.value ∙ c.in_ok-request.ensures in
     let front : IsSentPrefix (g.K.Link.told c.args.link.now) (g.K.Link.told c.send.new.self)
