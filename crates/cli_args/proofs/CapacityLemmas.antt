@@ -31,18 +31,26 @@ after_last steps slot e some =
     let apart : (length steps == 0) ≡ false = ne_eqb (length steps) 0 (λ none. omega (arith, some, none)) in
     ltb-true (step_at steps (length steps - 1)).from slot (rw apart at e)
 
-follows : (steps : List CapStep) (step : CapStep) → may_follow steps step ≡ true → MayFollow steps step
-follows steps step e =
+-- each part of the test of a step
+pub step_parts : (steps : List CapStep) (step : CapStep) → may_follow steps step ≡ true →
+    (nat_lt (length steps) MAX_STEPS ≡ true) × (is_later_step steps step.from ≡ true)
+    × (nat_le step.from LATEST_SLOT ≡ true) × (nat_le step.bytes MAX_CAPACITY ≡ true)
+step_parts steps step may =
     let all = and_parts (nat_lt (length steps) MAX_STEPS)
-    (is_later_step steps step.from && (nat_le step.from LATEST_SLOT && nat_le step.bytes MAX_CAPACITY)) e in
+    (is_later_step steps step.from && (nat_le step.from LATEST_SLOT && nat_le step.bytes MAX_CAPACITY)) may in
     let rest =
     and_parts (is_later_step steps step.from) (nat_le step.from LATEST_SLOT && nat_le step.bytes MAX_CAPACITY) all.1 in
     let small = and_parts (nat_le step.from LATEST_SLOT) (nat_le step.bytes MAX_CAPACITY) rest.1 in
+    (all.0, rest.0, small.0, small.1)
+
+follows : (steps : List CapStep) (step : CapStep) → may_follow steps step ≡ true → MayFollow steps step
+follows steps step may =
+    let parts = step_parts steps step may in
     record {
-      short = ltb-true (length steps) MAX_STEPS all.0;
-      first = at_start steps step.from rest.0;
-      later = after_last steps step.from rest.0;
-      small = leb-true step.bytes MAX_CAPACITY small.1;
+      short = ltb-true (length steps) MAX_STEPS parts.0;
+      first = at_start steps step.from parts.1;
+      later = after_last steps step.from parts.1;
+      small = leb-true step.bytes MAX_CAPACITY parts.3;
     }
 
 -- a step before the last one, and the last one

@@ -78,6 +78,11 @@ capacity_read settings steps plain c capacity =
     capacity_back steps (values_of (codes "capacity") (given settings))
     (values_read (codes "capacity") settings plain ∙ c) capacity
 
+named_read : (key : List ℕ) (settings : List Setting) (name : List ℕ) → are_plain settings ≡ true →
+    picked key settings ≡ name ∷ [] → good_name name ≡ true → one_name (values_of key (given settings)) ≡ Some name
+named_read key settings name plain p good =
+    name_back name (values_of key (given settings)) (values_read key settings plain ∙ p) good
+
 port_read : (settings : List Setting) (port : ℕ) → are_plain settings ≡ true →
     picked (codes "port") settings ≡ decimal port ∷ [] →
     IsValidPort port → port_given (given settings) ≡ Some port
@@ -114,8 +119,7 @@ film_read {name} {slot} settings plain picks good within =
     ∙ then_is (λ (n : List ℕ). option_map (λ (k : ℕ). film_source n k)
     (slot_given (given settings)))
     (one_name (values_of (codes "film") (given settings))) name (Some (film_source name slot))
-    (name_back name (values_of (codes "film") (given settings))
-    (values_read (codes "film") settings plain ∙ picks.film) good)
+    (named_read (codes "film") settings name plain picks.film good)
     (ap (option_map (λ (k : ℕ). film_source name k)) (slot_read settings slot plain picks.slot_is within))
 
 viewer_is : (words : List (List ℕ)) (source : PlanSource) (buffer delay : ℕ) → source_given words ≡ Some source →
@@ -157,7 +161,7 @@ check_read viewer cert may good = by viewer.source viewer.buffer viewer.delay ma
         then_is (λ (v : ClientParams). option_map (λ (c : List ℕ). check_of v c) (cert_given (given settings)))
         (client_given (given settings)) viewer (Some (check_of viewer cert)) found
         (ap (option_map (λ (c : List ℕ). check_of viewer c))
-        (name_back cert (values_of (codes "cert") (given settings)) (values_read (codes "cert") settings refl) good))
+        (named_read (codes "cert") settings cert refl refl good))
     by (film_source name slot) buffer delay named some few =
         let viewer : ClientParams = record { source = film_source name slot; buffer = buffer; delay = delay } in
         let settings = settings_of (check_of viewer cert) in
@@ -167,7 +171,7 @@ check_read viewer cert may good = by viewer.source viewer.buffer viewer.delay ma
         then_is (λ (v : ClientParams). option_map (λ (c : List ℕ). check_of v c) (cert_given (given settings)))
         (client_given (given settings)) viewer (Some (check_of viewer cert)) found
         (ap (option_map (λ (c : List ℕ). check_of viewer c))
-        (name_back cert (values_of (codes "cert") (given settings)) (values_read (codes "cert") settings refl) good))
+        (named_read (codes "cert") settings cert refl refl good))
 
 make_read : (kind : MediaKind) (seed pictures : ℕ) → seed < 2 ^ 64 → IsValidPictures pictures →
     make_given (given (settings_of (make_of kind seed pictures))) ≡ Some (make_of kind seed pictures)
@@ -190,8 +194,7 @@ run_read : (run : ScriptRun) → IsValidScriptRun run → script_run_given (give
 run_read run may =
     let settings = settings_of (day_of run) in
     let script : script_given (given settings) ≡ Some run.script =
-    name_back run.script (values_of (codes "script") (given settings))
-    (values_read (codes "script") settings refl) may.script in
+    named_read (codes "script") settings run.script refl refl may.script in
     let capacity = capacity_read settings run.capacity refl refl may.capacity in
     let journal = journal_read settings run.journal refl refl may.journal in
     let slot = slot_read settings run.slot refl refl may.slot in
@@ -224,8 +227,7 @@ watching_read : (watching : WatchArgs) → AreWatchArgs watching
 watching_read watching may =
     let settings = settings_of (watch_of watching) in
     let film : film_given (given settings) ≡ Some watching.film =
-    name_back watching.film (values_of (codes "film") (given settings))
-    (values_read (codes "film") settings refl) may.film in
+    named_read (codes "film") settings watching.film refl refl may.film in
     let port = port_read settings watching.port refl refl may.port in
     let planning = whole_pace settings refl refl refl refl may.planning in
     rw film (rw port (rw planning refl))
@@ -331,8 +333,7 @@ order_back (check_of viewer cert) may =
 order_back (scan_of film) may =
     command_read Scan (film_setting film ∷ []) (scan_of film) refl refl
     (ap (option_map scan_of)
-    (name_back film (values_of (codes "film") (given (film_setting film ∷ [])))
-    (values_read (codes "film") (film_setting film ∷ []) refl) may))
+    (named_read (codes "film") (film_setting film ∷ []) film refl refl may))
 order_back (make_of kind seed pictures) may =
     command_read Make (settings_of (make_of kind seed pictures)) (make_of kind seed pictures) refl refl
     (make_read kind seed pictures may.0 may.1)

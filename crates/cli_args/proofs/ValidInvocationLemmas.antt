@@ -15,11 +15,11 @@ use Rattle.vod_base.specs.Numbers.{number_of}
 use Rattle.slot_calendar.specs.declared.profiles.CapStep.{CapStep}
 use Rattle.vod_base.specs.Limits.{in_range}
 use Rattle.vod_base.specs.declared.links.TheConstants.{LATEST_SLOT}
-use Rattle.slot_calendar.specs.declared.profiles.TheConstants.{MAX_CAPACITY, MAX_STEPS}
+use Rattle.slot_calendar.specs.declared.profiles.TheConstants.{MAX_CAPACITY}
 use Rattle.cli_args.specs.declared.capacities.TheConstants.{DEFAULT_CAPACITY}
 use Rattle.cli_args.specs.Settings.{number_or, one_name, one_number, values_of}
 use Rattle.cli_args.specs.Capacities.{IsStepPrefix, capacity_of, flat_steps, may_follow, one_capacity, add_step_text}
-use Rattle.cli_args.specs.Capacities.{is_later_step, add_step, step_of, steps_of}
+use Rattle.cli_args.specs.Capacities.{add_step, step_of, steps_of}
 use Rattle.cli_args.specs.KeyValues.{film_given, buffer_given, delay_given, slot_given, journal_given, port_given}
 use Rattle.cli_args.specs.Subcommands.{subcommand_named, is_setting_of}
 use Rattle.cli_args.specs.declared.subcommands.Subcommand.{Subcommand}
@@ -36,7 +36,7 @@ use Rattle.cli_args.specs.ArgumentText.{IsValidInvocation}
 use Rattle.cli_args.specs.declared.invocations.ListenSettings.{ListenSettings}
 use Rattle.cli_args.specs.declared.invocations.PlanSettings.{PlanSettings}
 use Rattle.cli_args.specs.declared.invocations.FairRun.{FairRun}
-use Rattle.cli_args.proofs.CapacityLemmas.{front_more, profile_of}
+use Rattle.cli_args.proofs.CapacityLemmas.{front_more, profile_of, step_parts}
 use Rattle.cli_args.proofs.FilmLemmas.{films_asked}
 use Rattle.cli_args.proofs.SettingGroupLemmas.{last_step_found, step_found, test_passes, viewer_keys, pace_keys}
 use Rattle.cli_args.proofs.SettingGroupLemmas.{listening_keys, script_run_keys, fair_run_keys, serving_keys}
@@ -87,17 +87,11 @@ none_read = record {
 
 one_read : (steps : List CapStep) (step : CapStep) → AreRead steps → may_follow steps step ≡ true
     → AreRead (steps ++ step ∷ [])
-one_read steps step read may =
-    let all = and_parts (nat_lt (length steps) MAX_STEPS)
-    (is_later_step steps step.from && (nat_le step.from LATEST_SLOT && nat_le step.bytes MAX_CAPACITY)) may in
-    let rest =
-    and_parts (is_later_step steps step.from) (nat_le step.from LATEST_SLOT && nat_le step.bytes MAX_CAPACITY) all.1 in
-    let small = and_parts (nat_le step.from LATEST_SLOT) (nat_le step.bytes MAX_CAPACITY) rest.1 in
-    record {
-      front = front_more steps step read.front may;
-      early = All-push (λ (s : CapStep). s.from ≤ LATEST_SLOT) steps step read.early
-          (leb-true step.from LATEST_SLOT small.0);
-    }
+one_read steps step read may = record {
+  front = front_more steps step read.front may;
+  early = All-push (λ (s : CapStep). s.from ≤ LATEST_SLOT) steps step read.early
+      (leb-true step.from LATEST_SLOT (step_parts steps step may).2);
+}
 
 some_read : (steps : List CapStep) → AreRead steps → 1 ≤ length steps → IsCapacity steps
 some_read steps read some = (profile_of steps read.front some, read.early)
