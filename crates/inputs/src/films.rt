@@ -8,8 +8,7 @@ ghost use Rattle.sys_demux.specs.SystemStreams.{IsSystem};
 ghost use Rattle.cli_errors.specs.ReadErrors.{IsReadOnly, IsReadError};
 ghost use Rattle.inputs.specs.FileReads.{IsThatName};
 ghost use Rattle.inputs.specs.LoadErrors.{IsFileBytesError, IsFilmError, IsServedFilmRefused};
-ghost use Rattle.inputs.specs.LoadErrors.{IsNotRefused};
-ghost use Rattle.inputs.specs.LoadErrors.{IsStreamError};
+ghost use Rattle.inputs.specs.LoadErrors.{IsNotRefused, IsStreamError};
 ghost use Rattle.inputs.specs.ChunkScans.{HoldsVideo};
 ghost use Rattle.inputs.specs.Videos.{IsFilmRefused, IsRefusedAbove, IsVideo};
 

@@ -1,14 +1,13 @@
 //! Scans a film of the library while it is read.
 
-ghost use Rattle.std.specs.Prelude.{◌≡◌, ◌<◌, ◌≤◌, ◌^◌, None, ℕ, List, [], length};
-ghost use Rattle.std.specs.Prelude.{IfErr, IfOk, OnOk};
+ghost use Rattle.std.specs.Prelude.{◌≡◌, ◌<◌, ◌≤◌, ◌^◌, None, ℕ, List, [], length, IfErr, IfOk};
+ghost use Rattle.std.specs.Prelude.{OnOk};
 ghost use Rattle.mpeg_scan.specs.ScannerState.{IsSliceReady};
 ghost use Rattle.mpeg_scan.specs.declared.faults.ScanRefused.TheVariants.{Fault as ScanFault};
 ghost use Rattle.cli_errors.specs.ReadErrors.{IsReadOnly};
 ghost use Rattle.inputs.specs.LoadErrors.{IsFilmError};
 ghost use Rattle.inputs.specs.ChunkScans.{HasEnded, HasScannedFilm, HasScanned, HasScannedAll};
-ghost use Rattle.inputs.specs.ChunkScans.{HasTaken};
-ghost use Rattle.inputs.specs.ChunkScans.{IsRefusedAtEnd, IsScanError, WasOpened};
+ghost use Rattle.inputs.specs.ChunkScans.{HasTaken, IsRefusedAtEnd, IsScanError, WasOpened};
 
 use crate::files::{CHUNK_BYTES, SizedFile, find_file, zeros};
 use crate::pack_search::find_pack;

@@ -6,8 +6,7 @@ ghost use Rattle.mpeg_scan.specs.ScannerState.{IsSliceReady, bytes_fed};
 ghost use Rattle.cli_errors.specs.ReadErrors.{IsReadOnly};
 ghost use Rattle.inputs.specs.LoadErrors.{IsMovedFault, IsSystemError, IsToldFault};
 ghost use Rattle.inputs.specs.ChunkScans.{HasScannedFilm, HasStreamed, HasStreamedAll, HasTaken};
-ghost use Rattle.inputs.specs.ChunkScans.{HasUnwrapped};
-ghost use Rattle.inputs.specs.ChunkScans.{IsChunkRefused, IsScanError, WasOpened};
+ghost use Rattle.inputs.specs.ChunkScans.{HasUnwrapped, IsChunkRefused, IsScanError, WasOpened};
 
 use crate::files::SizedFile;
 use crate::scans::finish_scan;

@@ -9,6 +9,7 @@ ghost use Rattle.inputs.specs.Traces.{is_white_space, begins_token, tokens_from}
 ghost use Rattle.inputs.specs.Traces.{AddsSize, IsTraceText};
 ghost use Rattle.inputs.specs.FirstWord.{word_length, first_word, WritesSize};
 ghost use Rattle.inputs.specs.TraceRefusals.{IsTextRefused};
+ghost use Rattle.inputs.specs.declared.traces.TraceRefused.{TraceRefused};
 
 use std::alloc::{AllocError, AllocFailed, Global};
 use thiserror::Error;
@@ -38,9 +39,7 @@ pub enum TraceRefused {
 }
 
 impl From<AllocError> for TraceRefused {
-    ghost use Rattle.inputs.specs.declared.traces.TraceRefused.TheVariants.{NoMemory};
-
-    ghost from_gives = { λ _ refused. refused ≡ NoMemory };
+    ghost from_gives = { λ _ refused. refused ≡ TraceRefused.NoMemory };
 
     fn from(_error: AllocError) -> TraceRefused {
         TraceRefused::NoMemory
@@ -48,9 +47,7 @@ impl From<AllocError> for TraceRefused {
 }
 
 impl<T: Drop> From<AllocFailed<T>> for TraceRefused {
-    ghost use Rattle.inputs.specs.declared.traces.TraceRefused.TheVariants.{NoMemory};
-
-    ghost from_gives = { λ _ refused. refused ≡ NoMemory };
+    ghost from_gives = { λ _ refused. refused ≡ TraceRefused.NoMemory };
 
     fn from(_error: AllocFailed<T>) -> TraceRefused {
         TraceRefused::NoMemory
