@@ -245,6 +245,12 @@ pub record WorkerRun (gate after : WorkerGate) : Type 0 where
   pub content : Content
   pub tells : after.told ≡ Some content
 
+abbrev pub worker_run : {work : ServerRun} {gate after : WorkerGate} {worker : ℕ} {report : PartReport}
+    {content : Content} → IsWorkerResult work gate after worker report → after.told ≡ Some content →
+    WorkerRun gate after
+worker_run {work} {worker = worker} {report} {content} worked tells =
+    record { work = work; worker = worker; report = report; worked = worked; content = content; tells = tells }
+
 -- its part is back in the gate
 pub back_of : {gate after : WorkerGate} (r : WorkerRun gate after) → IsPartBack r.worker r.worked.after.told r.content
 back_of r = subst (λ (t : Option Content). IfSome t (IsPartBack r.worker r.worked.after.told)) r.tells r.worked.back
@@ -303,14 +309,8 @@ gives_each_back before after seed serving ended gate serves told have_run =
       count = subst (HasParts serving.listening.workers) told worked.split;
       each = λ worker inside.
           let within : worker < length worked.parts = omega (arith, inside, worked.count) in
-          part_back (record {
-            work = _;
-            worker = worker;
-            report = _;
-            worked = worker_worked (workers_of run.served) worker none within;
-            content = gate;
-            tells = told;
-          }) (each_found worked.parts run.served.end ended.reports.items worked.left run.found worker none within);
+          part_back (worker_run (worker_worked (workers_of run.served) worker none within) told)
+          (each_found worked.parts run.served.end ended.reports.items worked.left run.found worker none within);
     }
 
 -- with status 0 each worker's part had no more connections
@@ -344,12 +344,7 @@ leaves_none_out before after seed serving ended gate (inr served) status told =
       count = subst (HasParts serving.listening.workers) told worked.split;
       each = λ worker inside.
           let within : worker < length worked.parts = omega (arith, inside, worked.count) in
-          part_taken (record {
-            work = _;
-            worker = worker;
-            report = _;
-            worked = worker_worked (workers_of served) worker none within;
-            content = gate;
-            tells = told;
-          }) (worked.left.taken (all_taken (record { before = before; after = after }) _ served.ends status) worker none within);
+          part_taken (worker_run (worker_worked (workers_of served) worker none within) told)
+          (worked.left.taken (all_taken (record { before = before; after = after }) _ served.ends status)
+          worker none within);
     }

@@ -4,9 +4,11 @@
 
 mod days;
 mod laws;
+mod meter_line;
 mod program;
 mod run;
 mod run_results;
+mod served_films;
 mod server;
 mod server_output;
 #[cfg(test)]

@@ -1,7 +1,6 @@
 //! The command `watch`.
 
-ghost use Rattle.std.specs.Prelude.{◌≡◌, ◌≤◌, true, IfSome, IfOk, OnErr, OnOk, is_ok};
-ghost use Rattle.std.specs.Prelude.{option_map};
+ghost use Rattle.std.specs.Prelude.{◌≡◌, ◌≤◌, true, IfSome, IfOk, OnErr, OnOk, option_map};
 ghost use Rattle.vod_base.specs.Names.{good_name};
 ghost use Rattle.vod_base.specs.IoState.{HasRisen};
 ghost use Rattle.vod_base.specs.Gates.{Failed, after_empty_take};
@@ -9,20 +8,19 @@ ghost use Rattle.rtsp_client.specs.WatchRequests.{IsWish};
 ghost use Rattle.cli_args.specs.InvocationViews.{watch_args_of};
 ghost use Rattle.cli_args.specs.Ranges.{AreWatchArgsInRange};
 ghost use Rattle.conn.specs.Parts.{IsUntouched};
-ghost use Rattle.cli_errors.specs.StreamWrites.{IsTextWritten};
 ghost use Rattle.vodserve.specs.Run.{WatchEndSpec, HasServedNothing, PrintsWatched, WatchSpec};
 ghost use Rattle.vodserve.specs.IoStates.{gate_state_of, io_state_of, streams};
-ghost use Rattle.vodserve.specs.WatchSpec.{Hears, HearsPart, IsShortWatched};
-ghost use Rattle.vodserve.specs.WatchSpec.{IsWishOf, opening_at};
-ghost use Rattle.vodserve.specs.WatchSpec.{refusal_of, watched_text};
+ghost use Rattle.vodserve.specs.WatchSpec.{Hears, HearsPart, IsWishOf, opening_at};
+ghost use Rattle.vodserve.specs.WatchSpec.{refusal_of};
 ghost use Rattle.vodserve.specs.WorkerResults.{HasTooFewParts, IsOpenAs, IsOpenedOnce};
 
+use crate::meter_line::write_watched;
 use crate::run_results::{Ended, end_with};
 use cli_args::WatchArgs;
-use cli_errors::{CliError, InputError, write_number};
+use cli_errors::{CliError, InputError};
 use rtsp_client::{WatchEnd, WatchFault, Watched, Wish, watch};
 use std::alloc::Global;
-use vod_base::{Gate, GateFault, NoMemory, Opening, Sink, SinkFault};
+use vod_base::{Gate, GateFault, NoMemory, Opening, Sink};
 
 /// Watches a film that a server plays: writes the film's bytes as they come, and says at the end
 /// what the meter of the client's buffer read.
@@ -83,27 +81,6 @@ fn wish_of(alloc: Global, watching: &WatchArgs<'_>) -> Result<Wish, NoMemory>
         startup: watching.planning.delay,
         slot_units: watching.planning.slot,
     })
-}
-
-/// Says what the meter of the client's buffer read.
-///
-/// # Errors
-///
-/// [`SinkFault`] where a write fails: then a prefix of the line stands there.
-fn write_watched<E: Sink>(err: &mut E, watched: Watched) -> Result<(), SinkFault>
-    ensures said { IsTextWritten (E.faults err.old) (E.faults err.new) (E.written err.old)
-        (E.written err.new) (watched_text watched) (is_ok result) }
-    ensures short { IsShortWatched watched }
-{
-    err.write_all(b"watched")?;
-    write_number(err, "units", watched.units)?;
-    write_number(err, "bytes", watched.bytes)?;
-    write_number(err, "frames", watched.frames)?;
-    write_number(err, "reports", watched.reports)?;
-    write_number(err, "most", watched.most)?;
-    write_number(err, "over", watched.over)?;
-    write_number(err, "under", watched.under)?;
-    err.write_all(b"\n")
 }
 
 /// Watches over the first connection of a part, or returns None where it gives none.

@@ -9,7 +9,7 @@ use Rattle.vod_base.specs.IoState.{File}
 use Rattle.vod_base.specs.Names.{good_name}
 use Rattle.cli_errors.specs.ReadErrors.{IsReadError}
 use Rattle.cli_errors.specs.declared.errors.CliError.{CliError}
-use Rattle.cli_errors.proofs.ReadErrorLemmas.{good_input, trouble_map}
+use Rattle.cli_errors.proofs.ReadErrorLemmas.{causes_of, good_input, trouble_map}
 use Rattle.inputs.specs.FileReads.{IsThatName}
 use Rattle.inputs.proofs.ScanLemmas.{read_trouble_map}
 use Rattle.offline_commands.specs.Days.{IsDayInput, IsDayRefused, IsFirstNamedRefused, IsScriptOf, IsScriptRefused}
@@ -20,25 +20,17 @@ use Rattle.vodserve.proofs.days.day.Goals as goal
 
 pub end_with-requires : goal.end_with-requires
 end_with-requires g c =
-    good_input (record {
-      Reads = IsThatName c.args.run.now.script.now;
-      Refuses = IsScriptRefused;
-      told = g.L.Library.files c.args.library.now;
-      before = g.L.Library.faults c.args.library.now;
-      after = g.L.Library.faults c.load_script.new.library;
-    }) c.in-Err.error
+    good_input (causes_of (IsThatName c.args.run.now.script.now) IsScriptRefused
+    (g.L.Library.files c.args.library.now) (g.L.Library.faults c.args.library.now)
+    (g.L.Library.faults c.load_script.new.library)) c.in-Err.error
     (λ name is. subst (λ (n : List ℕ). good_name n ≡ true) (sym is) c.requires.named)
     ((c.in-Err.ensures {u = tt}).error)
 
 pub end_with-requires-in-Err-load_sources : goal.end_with-requires-in-Err-load_sources
 end_with-requires-in-Err-load_sources g c =
-    good_input (record {
-      Reads = Contains (names_in c.deref.result.now);
-      Refuses = IsFirstNamedRefused c.deref.result.now;
-      told = g.L.Library.files c.load_script.new.library;
-      before = g.L.Library.faults c.load_script.new.library;
-      after = g.L.Library.faults c.load_sources.new.library;
-    }) c.in-Err-load_sources.error
+    good_input (causes_of (Contains (names_in c.deref.result.now)) (IsFirstNamedRefused c.deref.result.now)
+    (g.L.Library.files c.load_script.new.library) (g.L.Library.faults c.load_script.new.library)
+    (g.L.Library.faults c.load_sources.new.library)) c.in-Err-load_sources.error
     (λ name inside. named_good c.in-Ok.script.named.items ((c.in-Ok.ensures {u = tt}).names)
     (rw c.deref.ensures.value at inside))
     ((c.in-Err-load_sources.ensures {u = tt}).error)
@@ -74,20 +66,9 @@ day_error : (read : ReadScript) (after : ℕ) (error : CliError) →
     IsReadError (IsDayInput read.store.told read.name) (IsDayRefused read.name) read.store.told read.store.faults after
     error
 day_error read after error =
-    trouble_map (record {
-      Reads = Contains (names_in script.named.items);
-      Refuses = IsFirstNamedRefused script.named.items;
-      told = store'.told;
-      before = store'.faults;
-      after = after;
-    })
-    (record {
-      Reads = IsDayInput store.told name;
-      Refuses = IsDayRefused name;
-      told = store.told;
-      before = store.faults;
-      after = after;
-    })
+    trouble_map (causes_of (Contains (names_in script.named.items)) (IsFirstNamedRefused script.named.items)
+    store'.told store'.faults after)
+    (causes_of (IsDayInput store.told name) (IsDayRefused name) store.told store.faults after)
     error
     (record {
       reads = λ name inside. inr (record { read = script; is = read.is; names = inside });

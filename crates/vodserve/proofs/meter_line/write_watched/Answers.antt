@@ -1,137 +1,57 @@
-use Rattle.std.proofs.Common.{ℕ, false, List, [], ◌∷◌, ◌++◌, Option, arith, codes}
+use Rattle.std.proofs.Common.{◌≡◌, ◌∙◌, ◌++◌, ℕ, List, [], ◌∷◌, ap, append_assoc, arith, codes, sym}
+use Rattle.std.specs.Prelude.{flat_map}
+use Rattle.std.proofs.lemmas.List.{append-nil}
 use Rattle.rtsp_client.specs.declared.watch_request.Watched.{Watched}
-use Rattle.cli_errors.specs.StreamWrites.{IsTextWritten, with_label}
-use Rattle.cli_errors.proofs.StreamWriteLemmas.{said_by, said_cut, said_lost, said_no_more, said_then, said_whole}
-use Rattle.vodserve.proofs.watch_command.write_watched.Goals as goal
+use Rattle.cli_errors.specs.StreamWrites.{with_label}
+use Rattle.cli_errors.proofs.StreamWriteLemmas.{said_as, said_by, said_cut, said_lost, said_no_more, said_then}
+use Rattle.cli_errors.proofs.StreamWriteLemmas.{said_whole}
+use Rattle.vodserve.specs.WatchSpec.{watched_text}
+use Rattle.vodserve.proofs.meter_line.write_watched.Goals as goal
 
--- a text and parts after it
-abbrev joined : List ℕ → List (List ℕ) → List ℕ
-joined text [] = text
-joined text (part ∷ parts) = joined (text ++ part) parts
+-- the numbers of the line with their labels
+abbrev numbers_of : Watched → List (List ℕ × ℕ)
+numbers_of w =
+    (codes "units", w.units) ∷ (codes "bytes", w.bytes) ∷ (codes "frames", w.frames) ∷ (codes "reports", w.reports)
+    ∷ (codes "most", w.most) ∷ (codes "over", w.over) ∷ (codes "under", w.under) ∷ []
 
--- none of them is said after a fault
-said_up_to : {faults faults' : ℕ} {told told' : Option (List ℕ)} {text : List ℕ} (parts : List (List ℕ)) →
-    IsTextWritten faults faults' told told' text false → IsTextWritten faults faults' told told' (joined text parts)
-    false
-said_up_to [] said = said
-said_up_to (part ∷ parts) said = said_up_to parts (said_no_more part said)
+abbrev numbers_text : List (List ℕ × ℕ) → List ℕ
+numbers_text numbers = flat_map (λ (n : List ℕ × ℕ). with_label n.0 n.1) numbers
 
--- the parts of the line from each of its labels on
-abbrev from_under : Watched → List (List ℕ)
-from_under w = with_label (codes "under") w.under ∷ codes "\n" ∷ []
+-- a text and numbers after it, one by one
+abbrev with_numbers : List ℕ → List (List ℕ × ℕ) → List ℕ
+with_numbers text [] = text
+with_numbers text (n ∷ numbers) = with_numbers (text ++ with_label n.0 n.1) numbers
 
-abbrev from_over : Watched → List (List ℕ)
-from_over w = with_label (codes "over") w.over ∷ from_under w
+numbers_after : (text : List ℕ) (numbers : List (List ℕ × ℕ)) → text ++ numbers_text numbers ≡ with_numbers text numbers
+numbers_after text [] = append-nil text
+numbers_after text (n ∷ numbers) =
+    sym (append_assoc text (with_label n.0 n.1) (numbers_text numbers))
+    ∙ numbers_after (text ++ with_label n.0 n.1) numbers
 
-abbrev from_most : Watched → List (List ℕ)
-from_most w = with_label (codes "most") w.most ∷ from_over w
-
-abbrev from_reports : Watched → List (List ℕ)
-from_reports w = with_label (codes "reports") w.reports ∷ from_most w
-
-abbrev from_frames : Watched → List (List ℕ)
-from_frames w = with_label (codes "frames") w.frames ∷ from_reports w
-
-abbrev from_bytes : Watched → List (List ℕ)
-from_bytes w = with_label (codes "bytes") w.bytes ∷ from_frames w
-
-abbrev from_units : Watched → List (List ℕ)
-from_units w = with_label (codes "units") w.units ∷ from_bytes w
+joined : (w : Watched) → (codes "watched" ++ numbers_text (numbers_of w)) ++ codes "\n" ≡ watched_text w
+joined w = ap (λ (t : List ℕ). t ++ codes "\n") (numbers_after (codes "watched") (numbers_of w))
 
 pub returns-in_err-write_all-clause-said : goal.returns-in_err-write_all-clause-said
 returns-in_err-write_all-clause-said g c =
     said_lost c.from_residual.result c.from_residual.ensures.1
-    (said_up_to (from_units c.args.watched)
+    (said_as (joined c.args.watched) (said_no_more (codes "\n") (said_no_more (numbers_text (numbers_of c.args.watched))
     (said_cut c.write_all.ensures.count ((c.in_err-write_all.ensures {u = tt}).fault)
-    ((c.in_err-write_all.ensures {u = tt}).front)))
+    ((c.in_err-write_all.ensures {u = tt}).front)))))
 
-pub returns-in_err-write_number-clause-said : goal.returns-in_err-write_number-clause-said
-returns-in_err-write_number-clause-said g c =
-    said_lost c.from_residual-in_err-write_number.result c.from_residual-in_err-write_number.ensures.1
-    (said_up_to (from_bytes c.args.watched)
+pub returns-in_err-write_numbers-clause-said : goal.returns-in_err-write_numbers-clause-said
+returns-in_err-write_numbers-clause-said g c =
+    said_lost c.from_residual-in_err-write_numbers.result c.from_residual-in_err-write_numbers.ensures.1
+    (said_as (joined c.args.watched) (said_no_more (codes "\n")
     (said_then (said_whole c.write_all.ensures.count ((c.in_ok-write_all.ensures {u = tt}).whole))
-    c.in_err-write_number.ensures))
-
-pub returns-in_err-write_number-2-clause-said : goal.returns-in_err-write_number-2-clause-said
-returns-in_err-write_number-2-clause-said g c =
-    said_lost c.from_residual-in_err-write_number-2.result c.from_residual-in_err-write_number-2.ensures.1
-    (said_up_to (from_frames c.args.watched)
-    (said_then (said_then (said_whole c.write_all.ensures.count ((c.in_ok-write_all.ensures {u = tt}).whole))
-    c.in_ok-write_number.ensures)
-    c.in_err-write_number-2.ensures))
-
-pub returns-in_err-write_number-3-clause-said : goal.returns-in_err-write_number-3-clause-said
-returns-in_err-write_number-3-clause-said g c =
-    said_lost c.from_residual-in_err-write_number-3.result c.from_residual-in_err-write_number-3.ensures.1
-    (said_up_to (from_reports c.args.watched)
-    (said_then (said_then (said_then (said_whole c.write_all.ensures.count ((c.in_ok-write_all.ensures {u = tt}).whole))
-    c.in_ok-write_number.ensures)
-    c.in_ok-write_number-2.ensures)
-    c.in_err-write_number-3.ensures))
-
-pub returns-in_err-write_number-4-clause-said : goal.returns-in_err-write_number-4-clause-said
-returns-in_err-write_number-4-clause-said g c =
-    said_lost c.from_residual-in_err-write_number-4.result c.from_residual-in_err-write_number-4.ensures.1
-    (said_up_to (from_most c.args.watched)
-    (said_then (said_then (said_then (said_then
-    (said_whole c.write_all.ensures.count ((c.in_ok-write_all.ensures {u = tt}).whole))
-    c.in_ok-write_number.ensures)
-    c.in_ok-write_number-2.ensures)
-    c.in_ok-write_number-3.ensures)
-    c.in_err-write_number-4.ensures))
-
-pub returns-in_err-write_number-5-clause-said : goal.returns-in_err-write_number-5-clause-said
-returns-in_err-write_number-5-clause-said g c =
-    said_lost c.from_residual-in_err-write_number-5.result c.from_residual-in_err-write_number-5.ensures.1
-    (said_up_to (from_over c.args.watched)
-    (said_then (said_then (said_then (said_then (said_then
-    (said_whole c.write_all.ensures.count ((c.in_ok-write_all.ensures {u = tt}).whole))
-    c.in_ok-write_number.ensures)
-    c.in_ok-write_number-2.ensures)
-    c.in_ok-write_number-3.ensures)
-    c.in_ok-write_number-4.ensures)
-    c.in_err-write_number-5.ensures))
-
-pub returns-in_err-write_number-6-clause-said : goal.returns-in_err-write_number-6-clause-said
-returns-in_err-write_number-6-clause-said g c =
-    said_lost c.from_residual-in_err-write_number-6.result c.from_residual-in_err-write_number-6.ensures.1
-    (said_up_to (from_under c.args.watched)
-    (said_then (said_then (said_then (said_then (said_then (said_then
-    (said_whole c.write_all.ensures.count ((c.in_ok-write_all.ensures {u = tt}).whole))
-    c.in_ok-write_number.ensures)
-    c.in_ok-write_number-2.ensures)
-    c.in_ok-write_number-3.ensures)
-    c.in_ok-write_number-4.ensures)
-    c.in_ok-write_number-5.ensures)
-    c.in_err-write_number-6.ensures))
-
-pub returns-in_err-write_number-7-clause-said : goal.returns-in_err-write_number-7-clause-said
-returns-in_err-write_number-7-clause-said g c =
-    said_lost c.from_residual-in_err-write_number-7.result c.from_residual-in_err-write_number-7.ensures.1
-    (said_up_to (codes "\n" ∷ [])
-    (said_then (said_then (said_then (said_then (said_then (said_then (said_then
-    (said_whole c.write_all.ensures.count ((c.in_ok-write_all.ensures {u = tt}).whole))
-    c.in_ok-write_number.ensures)
-    c.in_ok-write_number-2.ensures)
-    c.in_ok-write_number-3.ensures)
-    c.in_ok-write_number-4.ensures)
-    c.in_ok-write_number-5.ensures)
-    c.in_ok-write_number-6.ensures)
-    c.in_err-write_number-7.ensures))
+    c.in_err-write_numbers.ensures)))
 
 pub returns-clause-said : goal.returns-clause-said
 returns-clause-said g c =
-    said_then (said_then (said_then (said_then (said_then (said_then (said_then (said_then
-    (said_whole c.write_all.ensures.count ((c.in_ok-write_all.ensures {u = tt}).whole))
-    c.in_ok-write_number.ensures)
-    c.in_ok-write_number-2.ensures)
-    c.in_ok-write_number-3.ensures)
-    c.in_ok-write_number-4.ensures)
-    c.in_ok-write_number-5.ensures)
-    c.in_ok-write_number-6.ensures)
-    c.in_ok-write_number-7.ensures)
+    said_as (joined c.args.watched)
+    (said_then (said_then (said_whole c.write_all.ensures.count ((c.in_ok-write_all.ensures {u = tt}).whole))
+    c.in_ok-write_numbers.ensures)
     (said_by c.write_all-2.result c.write_all-2.ensures.count c.write_all-2.ensures.fault c.write_all-2.ensures.whole
-    c.write_all-2.ensures.front)
+    c.write_all-2.ensures.front))
 
 pub returns-clause-short : goal.returns-clause-short
 returns-clause-short g c = record {

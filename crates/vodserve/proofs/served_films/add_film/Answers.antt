@@ -4,7 +4,7 @@ use Rattle.film_frames.specs.declared.stored_films.Stored.{Stored}
 use Rattle.vodserve.specs.WorkerResults.{IsHeld}
 use Rattle.vodserve.proofs.FilmLoadLemmas.{held_film}
 use Rattle.std.proofs.lemmas.List.Elements.{All-push}
-use Rattle.vodserve.proofs.server.add_film.Goals as goal
+use Rattle.vodserve.proofs.served_films.add_film.Goals as goal
 
 pub returns-clause-held : goal.returns-clause-held
 returns-clause-held g c =

@@ -7,12 +7,12 @@ use Rattle.std.specs.Option.{option_to_list}
 use Rattle.std.proofs.lemmas.List.{append-nil, append_assoc, drop_all}
 use Rattle.film_streams.specs.SettingRanges.{names_of}
 use Rattle.cli_args.specs.Settings.{setting_value, texts, values_of}
-use Rattle.cli_errors.proofs.ReadErrorLemmas.{trouble_map}
+use Rattle.cli_errors.proofs.ReadErrorLemmas.{causes_of, trouble_map}
 use Rattle.inputs.specs.LoadErrors.{IsServedFilmRefused}
 use Rattle.vodserve.specs.ServerOutput.{IsFirstRefused, IsWordNamed}
 use Rattle.inputs.proofs.ScanLemmas.{handed_on}
 use Rattle.vodserve.proofs.FilmLoadLemmas.{WordAt, films_are, first_refused, values_rest, word_film}
-use Rattle.vodserve.proofs.server.load_films.Goals as goal
+use Rattle.vodserve.proofs.served_films.load_films.Goals as goal
 
 pub returns-in_err-add_film-clause-error : goal.returns-in_err-add_film-clause-error
 returns-in_err-add_film-clause-error g c =
@@ -26,20 +26,13 @@ returns-in_err-add_film-clause-error g c =
       named = rw c.as_str.ensures.value at named;
     } in
     handed_on _ c.from_residual.result c.from_residual.ensures.1
-    (trouble_map (record {
-      Reads = IsWordNamed c.as_str.result.now;
-      Refuses = IsServedFilmRefused;
-      told = g.L.Library.files c.loop-word.library;
-      before = g.L.Library.faults c.loop-word.library;
-      after = g.L.Library.faults c.add_film.new.library;
-    })
-    (record {
-      Reads = Contains (values_of (codes "film") (texts c.args.words.now));
-      Refuses = IsFirstRefused (values_of (codes "film") (texts c.args.words.now));
-      told = g.L.Library.files c.args.library.now;
-      before = g.L.Library.faults c.args.library.now;
-      after = g.L.Library.faults c.add_film.new.library;
-    })
+    (trouble_map (causes_of (IsWordNamed c.as_str.result.now) IsServedFilmRefused
+    (g.L.Library.files c.loop-word.library) (g.L.Library.faults c.loop-word.library)
+    (g.L.Library.faults c.add_film.new.library))
+    (causes_of (Contains (values_of (codes "film") (texts c.args.words.now)))
+    (IsFirstRefused (values_of (codes "film") (texts c.args.words.now)))
+    (g.L.Library.files c.args.library.now) (g.L.Library.faults c.args.library.now)
+    (g.L.Library.faults c.add_film.new.library))
     c.in_err-add_film.field-0.0
     (record {
       reads = λ name named. word_film (word_at name named);

@@ -4,7 +4,7 @@ use Rattle.film_streams.specs.SettingRanges.{names_of}
 use Rattle.cli_args.specs.Settings.{texts, values_of}
 use Rattle.cli_errors.specs.ReadErrors.{IsLibraryUnchanged}
 use Rattle.vodserve.specs.WorkerResults.{IsHeld}
-use Rattle.vodserve.proofs.server.load_films.Given as goal
+use Rattle.vodserve.proofs.served_films.load_films.Given as goal
 
 abbrev pub invariant-loop-word : goal.invariant-loop-word
 invariant-loop-word g l = record {

@@ -81,23 +81,14 @@ loop-worker-preserved g c =
           (λ some. risen_since before mid after (c.rejoin.ensures.risen some) inv.count);
     }
 
-pub join-requires-clause-other : goal.join-requires-clause-other
-join-requires-clause-other g c =
+pub join-requires : goal.join-requires
+join-requires g c =
     let turn = YieldsList-turn (YieldsList-from_vec {s = c.into_iter-worker-iterator.result} c.args.workers.items
     (search rules) (search rules)) c.loop-worker.yielded c.loop-worker.worker-iterator c.loop-worker.yielded_by
     c.next.result c.next.new.self c.in-Some.worker c.in-Some.is c.next.ensures.steps in
     let next = taken_worker {worker = c.in-Some.worker} c.args.workers.items c.loop-worker.yielded c.requires.workers
     turn in
-    next.is.id
-
-pub join-requires-clause-not_first : goal.join-requires-clause-not_first
-join-requires-clause-not_first g c =
-    let turn = YieldsList-turn (YieldsList-from_vec {s = c.into_iter-worker-iterator.result} c.args.workers.items
-    (search rules) (search rules)) c.loop-worker.yielded c.loop-worker.worker-iterator c.loop-worker.yielded_by
-    c.next.result c.next.new.self c.in-Some.worker c.in-Some.is c.next.ensures.steps in
-    let next = taken_worker {worker = c.in-Some.worker} c.args.workers.items c.loop-worker.yielded c.requires.workers
-    turn in
-    λ first. omega (arith, first, next.is.seat)
+    record { seat = search rules; other = next.is.id; not_first = λ first. omega (arith, first, next.is.seat) }
 
 pub rejoin-requires : goal.rejoin-requires
 rejoin-requires g c =

@@ -9,8 +9,7 @@ use Rattle.vodserve.proofs.workers.run_workers.Goals as goal
 
 pub returns-clause-workers : goal.returns-clause-workers
 returns-clause-workers g c =
-    let value : length c.as_mut_slice.result.now ≡ length c.args.workers.now.items =
-    ap (λ (ws : List (Worker _)). length ws) c.as_mut_slice.ensures.value in
+    let value = ap (λ (ws : List (Worker _)). length ws) c.as_mut_slice.ensures.value in
     let long : length c.for_each_mut.new.s ≡ length c.args.workers.now.items =
     omega (arith, c.for_each_mut.auto.s, value) in
     subst (AreWorkers g.G.Gate.told g.G.Gate.faults c.args.service.station.now 0)
@@ -29,8 +28,7 @@ returns-clause-workers g c =
 
 pub returns-clause-finished : goal.returns-clause-finished
 returns-clause-finished g c =
-    let value : length c.as_mut_slice.result.now ≡ length c.args.workers.now.items =
-    ap (λ (ws : List (Worker _)). length ws) c.as_mut_slice.ensures.value in
+    let value = ap (λ (ws : List (Worker _)). length ws) c.as_mut_slice.ensures.value in
     let long : length c.for_each_mut.new.s ≡ length c.args.workers.now.items =
     omega (arith, c.for_each_mut.auto.s, value) in
     let Ends : Worker _ → Type 0 =
