@@ -113,16 +113,18 @@ clock_of {h} {m} {s} {a} {b} {c} digits =
       minutes_end = subst (λ (n : ℕ). E text n) (hours_size h)
           (subst (λ (t : List ℕ). E t (length front)) (clock_split h m s)
           (digits_end front m s (digits_of 2 m b digits.minutes)));
-      inside = omega (arith, clock_size h m s);
       hours = a;
       minutes = b;
       rest = c;
-      are_hours =
-          subst (λ (t : List ℕ). IsDigits 5 t a) (sym (take_at h (58 ∷ (m ++ 58 ∷ s)) (length h) refl)) digits.hours;
-      are_minutes = subst (λ (t : List ℕ). IsDigits 2 t b) (sym (minutes_in h m s)) digits.minutes;
-      are_seconds = subst (λ (t : List ℕ). IsDigits 2 t c) (sym (seconds_in h m s)) digits.seconds;
-      small_minutes = digits.small_minutes;
-      small_seconds = digits.small_seconds;
+      at = record {
+        inside = omega (arith, clock_size h m s);
+        are_hours =
+            subst (λ (t : List ℕ). IsDigits 5 t a) (sym (take_at h (58 ∷ (m ++ 58 ∷ s)) (length h) refl)) digits.hours;
+        are_minutes = subst (λ (t : List ℕ). IsDigits 2 t b) (sym (minutes_in h m s)) digits.minutes;
+        are_seconds = subst (λ (t : List ℕ). IsDigits 2 t c) (sym (seconds_in h m s)) digits.seconds;
+        small_minutes = digits.small_minutes;
+        small_seconds = digits.small_seconds;
+      };
       seconds_are = refl;
     }
 

@@ -8,7 +8,6 @@ use Rattle.std.proofs.lemmas.Bool.{and_parts}
 use Rattle.std.proofs.lemmas.Str.Parse.{not_in_digits}
 use Rattle.vod_base.specs.Blanks.{without_blanks}
 use Rattle.vod_base.specs.Numbers.{is_decimal}
-use Rattle.rtsp_fields.specs.SeparatedParts.{IsPartEnd}
 use Rattle.rtsp_fields.specs.NptTimes.{IsDigits, IsClock, AreSeconds, IsFraction, IsTime}
 use Rattle.rtsp_fields.specs.Ranges.{IsOrigin, IsLimit, IsSpan}
 use Rattle.rtsp_fields.specs.Transports.{IsPair, IsSingle, AreChannels, NamesChannels, HasChannels, IsDelivery}
@@ -24,7 +23,7 @@ use Rattle.vod_base.proofs.DigitLemmas.{decimal_numerals}
 use Rattle.rtsp_text.proofs.NumberTexts.{number_read}
 use Rattle.rtsp_fields.proofs.PartPlaces.{end_once, first_once}
 use Rattle.rtsp_fields.proofs.PartLemmas.{IsPairAt, named_part, pair_at, within_once}
-use Rattle.rtsp_fields.proofs.ClockTimes.{value_once}
+use Rattle.rtsp_fields.proofs.ClockTimes.{clock_at, value_once}
 
 -- a decimal text has no byte of another kind
 pub no_other_byte : (text : List ℕ) (c i : ℕ) → is_decimal text ≡ true → ¬ (IsInRange 48 57 c) → i < length text
@@ -36,26 +35,15 @@ no_other_byte text c i decimal other inside =
 -- digits aren't a clock time
 pub digits_no_clock : (text : List ℕ) (a b : ℕ) → IsDigits 9 text a → IsClock text b → ⊥
 digits_no_clock text a b d clock =
-    let inside : clock.first < length text = omega (arith, clock.minutes_end.after, clock.inside) in
+    let inside : clock.first < length text = omega (arith, clock.minutes_end.after, clock.at.inside) in
     no_other_byte text 58 clock.first d.decimal (λ r. omega (arith, r)) inside (clock.hours_end.ends inside)
 
 pub clock_once : (text : List ℕ) (a b : ℕ) → IsClock text a → IsClock text b → a ≡ b
 clock_once text a b x y =
-    let first : x.first ≡ y.first = end_once x.hours_end y.hours_end in
-    let F : ℕ → Type 0 = λ n. IsPartEnd 58 text (n + 1) x.second in
-    let second : x.second ≡ y.second = end_once (subst F first x.minutes_end) y.minutes_end in
-    let H : ℕ → Type 0 = λ n. IsDigits 5 (take n text) x.hours in
-    let hours : x.hours ≡ y.hours =
-    value_once 5 (take y.first text) x.hours y.hours (subst H first x.are_hours) y.are_hours in
-    let M : ℕ → Type 0 = λ n. IsDigits 2 (slice_range text (n + 1) x.second) x.minutes in
-    let N : ℕ → Type 0 = λ n. IsDigits 2 (slice_range text (y.first + 1) n) x.minutes in
-    let minutes : x.minutes ≡ y.minutes =
-    value_once 2 (slice_range text (y.first + 1) y.second) x.minutes y.minutes
-    (subst N second (subst M first x.are_minutes)) y.are_minutes in
-    let S : ℕ → Type 0 = λ n. IsDigits 2 (slice_range text (n + 1) (length text)) x.rest in
-    let rest : x.rest ≡ y.rest =
-    value_once 2 (slice_range text (y.second + 1) (length text)) x.rest y.rest
-    (subst S second x.are_seconds) y.are_seconds in
+    let at = clock_at (record { hours_end = y.hours_end; minutes_end = y.minutes_end }) x in
+    let hours : x.hours ≡ y.hours = value_once 5 _ _ _ at.are_hours y.at.are_hours in
+    let minutes : x.minutes ≡ y.minutes = value_once 2 _ _ _ at.are_minutes y.at.are_minutes in
+    let rest : x.rest ≡ y.rest = value_once 2 _ _ _ at.are_seconds y.at.are_seconds in
     omega (arith, hours, minutes, rest, x.seconds_are, y.seconds_are)
 
 pub seconds_once : (text : List ℕ) (a b : ℕ) → AreSeconds text a → AreSeconds text b → a ≡ b
@@ -104,7 +92,7 @@ no_time text n other t = elim t.whole [
       let within : clock.first ≤ t.point =
       omega (arith, clock.hours_end.within, length-take t.point text, min-le_left t.point (length text)) in
       let P : List ℕ → Type 0 = λ ds. is_decimal ds ≡ true in
-      first_digit text clock.first (subst P (take-take clock.first t.point text within) clock.are_hours.decimal) other
+      first_digit text clock.first (subst P (take-take clock.first t.point text within) clock.at.are_hours.decimal) other
 ]
 
 origin_once : (text : List ℕ) (a b : Origin) → IsOrigin text a → IsOrigin text b → a ≡ b

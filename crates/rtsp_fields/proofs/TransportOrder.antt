@@ -67,14 +67,20 @@ not_taken front part channels none plain other = λ is.
     taken.plain (length front + 1 + 0) (length front + 1 + length part) stands
     (subst AsksOtherDelivery (sym is_part) other)
 
+-- the same of a part that is written with its `;`
+written_not_taken : (front part : List ℕ) (channels : Channels) → HasNoComma (front ++ (codes ";" ++ part))
+    → list_all (other_than 59) part ≡ true → AsksOtherDelivery part
+    → ¬ IsTransport (front ++ (codes ";" ++ part)) channels
+written_not_taken front part channels none plain other = λ is.
+    let same : front ++ (codes ";" ++ part) ≡ front ++ codes ";" ++ part = sym (append_assoc front (codes ";") part) in
+    not_taken front part channels (subst HasNoComma same none) plain other
+    (subst (λ (t : List ℕ). IsTransport t channels) same is)
+
 pub multicast_not_taken : (front : List ℕ) (channels : Channels) → HasNoComma (front ++ codes ";multicast")
     → ¬ IsTransport (front ++ codes ";multicast") channels
 unfolding other_than
-multicast_not_taken front channels none = λ is.
-    let same : front ++ codes ";multicast" ≡ front ++ codes ";" ++ codes "multicast" =
-    sym (append_assoc front (codes ";") (codes "multicast")) in
-    not_taken front (codes "multicast") channels (subst HasNoComma same none) refl (inl refl)
-    (subst (λ (t : List ℕ). IsTransport t channels) same is)
+multicast_not_taken front channels none =
+    written_not_taken front (codes "multicast") channels none refl (inl refl)
 
 -- the sixth byte distinguishes the modes
 other_mode : (byte : ℕ) (rest : List ℕ) → byte ≢ 114 → part_word (codes "mode=record") ≢ codes "mode=" ++ byte ∷ rest
@@ -83,9 +89,6 @@ other_mode byte rest other = λ e. other (sym (ap (λ (l : List ℕ). get_or l 5
 pub record_not_taken : (front : List ℕ) (channels : Channels) → HasNoComma (front ++ codes ";mode=record")
     → ¬ IsTransport (front ++ codes ";mode=record") channels
 unfolding other_than
-record_not_taken front channels none = λ is.
-    let same : front ++ codes ";mode=record" ≡ front ++ codes ";" ++ codes "mode=record" =
-    sym (append_assoc front (codes ";") (codes "mode=record")) in
-    not_taken front (codes "mode=record") channels (subst HasNoComma same none) refl
+record_not_taken front channels none =
+    written_not_taken front (codes "mode=record") channels none refl
     (inr (refl, other_mode 112 (codes "lay") (omega arith), other_mode 34 (codes "play\"") (omega arith)))
-    (subst (λ (t : List ℕ). IsTransport t channels) same is)

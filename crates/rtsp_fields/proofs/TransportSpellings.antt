@@ -102,19 +102,13 @@ protocol_word text s =
     spelled (codes "rtp/avp/tcp") text (record { some = omega arith; first = refl; last = refl }) s
 
 -- a part that asks for playback asks for nothing else, and names no channels
-mode_plain : (part : List ℕ) → (part_word part ≡ codes "mode=play") → ¬ AsksOtherDelivery part
-mode_plain part is = go
-  where
-    go : AsksOtherDelivery part → ⊥
-    go (inl e) = absurd (let w : 117 ≡ 111 = ap (λ (l : List ℕ). get_or l 1 0) (sym e ∙ is) in omega (arith, w))
-    go (inr e) = e.1 is
+mode_plain : (part : List ℕ) → (part_word part ≡ codes "mode=play") → AsksOtherDelivery part → ⊥
+mode_plain part is (inl e) = let w : 117 ≡ 111 = ap (λ (l : List ℕ). get_or l 1 0) (sym e ∙ is) in omega (arith, w)
+mode_plain part is (inr e) = e.1 is
 
-quoted_plain : (part : List ℕ) → (part_word part ≡ codes "mode=\"play\"") → ¬ AsksOtherDelivery part
-quoted_plain part is = go
-  where
-    go : AsksOtherDelivery part → ⊥
-    go (inl e) = absurd (let w : 117 ≡ 111 = ap (λ (l : List ℕ). get_or l 1 0) (sym e ∙ is) in omega (arith, w))
-    go (inr e) = e.2 is
+quoted_plain : (part : List ℕ) → (part_word part ≡ codes "mode=\"play\"") → AsksOtherDelivery part → ⊥
+quoted_plain part is (inl e) = let w : 117 ≡ 111 = ap (λ (l : List ℕ). get_or l 1 0) (sym e ∙ is) in omega (arith, w)
+quoted_plain part is (inr e) = e.2 is
 
 -- what is known of a part that is read
 pub record IsPlainPart (part : List ℕ) : Type 0 where

@@ -13,22 +13,26 @@ pub record IsDigits (most : ℕ) (text : List ℕ) (number : ℕ) : Type 0 where
   pub short : length text ≤ most
   pub value : number ≡ digits_value 10 text
 
--- hours, minutes and seconds with `:` between them: 1 to 5 digits, then twice one or two digits up
+-- hours, minutes and seconds, cut at these colons: 1 to 5 digits, then twice one or two digits up
 -- to 59
-pub record IsClock (text : List ℕ) (seconds : ℕ) : Type 0 where
-  pub first : ℕ
-  pub second : ℕ
-  pub hours_end : IsPartEnd 58 text 0 first
-  pub minutes_end : IsPartEnd 58 text (first + 1) second
+pub record IsClockAt (text : List ℕ) (first second hours minutes rest : ℕ) : Type 0 where
   pub inside : second < length text
-  pub hours : ℕ
-  pub minutes : ℕ
-  pub rest : ℕ
   pub are_hours : IsDigits 5 (take first text) hours
   pub are_minutes : IsDigits 2 (slice_range text (first + 1) second) minutes
   pub are_seconds : IsDigits 2 (slice_range text (second + 1) (length text)) rest
   pub small_minutes : minutes ≤ 59
   pub small_seconds : rest ≤ 59
+
+-- hours, minutes and seconds with `:` between them
+pub record IsClock (text : List ℕ) (seconds : ℕ) : Type 0 where
+  pub first : ℕ
+  pub second : ℕ
+  pub hours : ℕ
+  pub minutes : ℕ
+  pub rest : ℕ
+  pub hours_end : IsPartEnd 58 text 0 first
+  pub minutes_end : IsPartEnd 58 text (first + 1) second
+  pub at : IsClockAt text first second hours minutes rest
   pub seconds_are : seconds ≡ hours * 3600 + minutes * 60 + rest
 
 -- whole seconds: 1 to 9 digits, or hours, minutes and seconds
