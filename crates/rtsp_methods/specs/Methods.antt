@@ -56,23 +56,17 @@ pub record MethodValues : Type 0 where
   pub film : FilmNeed
   pub state : StateNeed
 
+abbrev values : Method → List ℕ → SessionNeed → FilmNeed → StateNeed → MethodValues
+values method name session film state =
+    record { method = method; name = name; session = session; film = film; state = state }
+
 abbrev pub values_in : MethodRow → MethodValues
-values_in row = record {
-  method = row.method;
-  name = row.name.now;
-  session = row.session;
-  film = row.film;
-  state = row.state;
-}
+values_in row = values row.method row.name.now row.session row.film row.state
 
 abbrev pub values_of : Method → MethodValues
-values_of method = record {
-  method = method;
-  name = name_of method;
-  session = session_need_of method;
-  film = film_need_of method;
-  state = state_need_of method;
-}
+values_of method =
+    values method (name_of method) (session_need_of method) (film_need_of method)
+    (state_need_of method)
 
 abbrev pub IsRowOf : Method → MethodRow → Type 0
 IsRowOf method row = values_in row ≡ values_of method
