@@ -67,14 +67,7 @@ coded_whole : {code sequence : ℕ} {fields : List Field} (body : List ℕ) → 
     → AreWritten 16256 fields → HasGivenLength fields body → length body ≤ MAX_BODY_BYTES
     → IsMessage (reply_text code (Some sequence) fields body)
 coded_whole {code} {sequence} {fields} body status number written given small =
-    whole_of (record { code = code; sequence = Some sequence; fields = fields; body = body }) (record {
-      known = status.known;
-      phrase_short = status.phrase_short;
-      number = number;
-      written = written;
-      given = given;
-      small = small;
-    })
+    whole_of (record { code = code; sequence = Some sequence; fields = fields; body = body }) assumption
 
 says_whole : {sequence : ℕ} {fields : List Field} (body : List ℕ) → sequence < 2 ^ 64 → AreWritten 16256 fields
     → HasGivenLength fields body → length body ≤ MAX_BODY_BYTES → IsMessage (reply_text 200 (Some sequence) fields body)
