@@ -92,7 +92,7 @@ no_time text n other t = elim t.whole [
       let within : clock.first ≤ t.point =
       omega (arith, clock.hours_end.within, length-take t.point text, min-le_left t.point (length text)) in
       let P : List ℕ → Type 0 = λ ds. is_decimal ds ≡ true in
-      first_digit text clock.first (subst P (take-take clock.first t.point text within) clock.at.are_hours.decimal) other
+      first_digit text clock.first (subst P (take-take _ t.point text within) clock.at.are_hours.decimal) other
 ]
 
 origin_once : (text : List ℕ) (a b : Origin) → IsOrigin text a → IsOrigin text b → a ≡ b

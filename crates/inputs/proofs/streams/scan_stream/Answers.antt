@@ -56,7 +56,8 @@ returns-in-Ok-clause-error g c =
     stream_refused file
     (subst (λ (l : List ℕ). IsSystem l video) (sym (stream_seen file (all.whole held is)))
     ((c.in-Ok.ensures {u = tt}).end all.seen video all.unwrapped.fed))
-    (refuses video (omega (arith, c.requires.short, all.unwrapped.few, all.few)) all.unwrapped.taken)) c.finish_scan.ensures.error
+    (refuses video (omega (arith, c.requires.short, all.unwrapped.few, all.few)) all.unwrapped.taken))
+    c.finish_scan.ensures.error
 
 pub returns-in-Err-clause-error : goal.returns-in-Err-clause-error
 returns-in-Err-clause-error g c =
