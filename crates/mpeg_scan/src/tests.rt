@@ -1,7 +1,7 @@
 //! Expected values are worked out by hand from ISO/IEC 11172-2; film A is a sequence header, a
 //! group header, an I picture and one slice, and film B is film A, a P picture and one slice.
 
-ghost use Rattle.std.specs.Prelude.{⊤, ◌<◌};
+ghost use Rattle.std.specs.Prelude.{⊤};
 
 mod refusals;
 
@@ -106,31 +106,6 @@ fn joined(alloc: Global, parts: &[&[u8]]) -> Result<Vec<u8>, AllocError> {
         film.extend_from_slice(part)?;
     }
     Ok(film)
-}
-
-fn sequence_of(rate: u8) -> [u8; 12]
-    requires { rate < 16 }
-{
-    [
-        0,
-        0,
-        1,
-        0xb3,
-        0x16,
-        0x01,
-        0x20,
-        0x10 + rate,
-        0xff,
-        0xff,
-        0xe0,
-        0xa0,
-    ]
-}
-
-fn picture_of(coding_type: u8) -> [u8; 8]
-    requires { coding_type < 8 }
-{
-    [0, 0, 1, 0, 0x00, 0x07 + 8 * coding_type, 0xff, 0xf8]
 }
 
 #[test]
