@@ -15,12 +15,13 @@ use mpeg_scan::scan;
 use plan_cert::Plan;
 use std::alloc::Global;
 use std::process::Abort;
+use std::slice;
 use std::test::Fail;
 use vod_base::{MemoryLink, NoMemory, good_name};
 
 mod talks;
 
-use talks::{Comes, Row, Told};
+use talks::{Comes, Dialog, Row, Told};
 
 /// Two pictures: a sequence header, a group header, an I picture and one slice; a P picture and one
 /// slice. On the wire: a report of 52 bytes, and frames of 54 and 35.
@@ -48,15 +49,19 @@ struct Talk<'a> {
     read: usize,
 }
 
-/// A server's film of two pictures, `b.mpg`.
-#[tactic(auto, using(crate::proofs::TestFilms::one_film))]
-fn films_of(rt: &impl Abort, alloc: Global) -> Result<[Stored; 1], Fail>
-    ensures { IfOk result (λ films. AreFilms films) }
-{
+/// A film of two pictures, `b.mpg`.
+fn film_of(alloc: Global) -> Result<Stored, Fail> {
     let film = scan(alloc, Vec::from_slice(alloc, &FILM)?)?;
-    let stored = Stored::new(alloc, String::from_str(alloc, "b.mpg")?, film)?;
-    assert!(rt; good_name(stored.name.as_bytes()));
-    Ok([stored])
+    Ok(Stored::new(alloc, String::from_str(alloc, "b.mpg")?, film)?)
+}
+
+/// The films of a server that has this one alone.
+#[tactic(auto, using(crate::proofs::TestFilms::one_film))]
+fn only<'a>(rt: &impl Abort, film: &'a Stored) -> &'a [Stored]
+    ensures { AreFilms result.now }
+{
+    assert!(rt; good_name(film.name.as_bytes()));
+    slice::from_ref(film)
 }
 
 /// Whether a message is one complete request.
@@ -243,52 +248,36 @@ impl<'a> Talk<'a> {
     }
 }
 
-/// Talks to a session row by row, compares what it sends, and returns what it noted.
-fn run_rows<R: Abort>(
-    rt: &R,
-    alloc: Global,
-    films: &[Stored],
-    rows: &[Row],
-) -> Result<Notes, NoMemory>
-    requires { AreFilms films.now }
-{
-    let mut talk = Talk::new(alloc, films)?;
-    talk.run(rt, alloc, rows)?;
-    Ok(talk.into_notes(rt))
-}
-
-#[test]
-fn answers_each_method(rt: HostRuntime) -> Result<(), Fail> {
-    let films = films_of(&rt, rt.alloc())?;
-    let notes = run_rows(&rt, rt.alloc(), &films, talks::methods())?;
-    assert!(rt; notes.receipts.as_slice() == talks::receipts());
-    assert!(rt; notes.plays.len() == 1);
-    assert!(rt; notes.offers.len() == 1);
+/// Compares what a session noted.
+fn check_notes<R: Abort>(rt: &R, notes: &Notes, dialog: &Dialog) {
+    assert!(rt; notes.receipts.as_slice() == dialog.receipts);
+    assert!(rt; notes.plays.len() == dialog.plays);
+    assert!(rt; notes.offers.len() == dialog.offers);
     assert!(rt; notes.late == 0);
-    Ok(())
 }
 
-/// Talks to a session that is refused each play, and compares how many receipts it noted.
-fn expect_receipts<R: Abort>(
+/// Talks to a session row by row, and compares what it sends and what it notes.
+fn check_dialog<R: Abort>(
     rt: &R,
     alloc: Global,
     films: &[Stored],
-    rows: &[Row],
-    receipts: usize,
+    dialog: &Dialog,
 ) -> Result<(), NoMemory>
     requires { AreFilms films.now }
 {
-    let notes = run_rows(rt, alloc, films, rows)?;
-    assert!(rt; notes.receipts.len() == receipts);
-    assert!(rt; notes.plays.is_empty());
+    let mut talk = Talk::new(alloc, films)?;
+    talk.run(rt, alloc, dialog.rows)?;
+    check_notes(rt, &talk.into_notes(rt), dialog);
     Ok(())
 }
 
 #[test]
-fn refuses_with_each_code(rt: HostRuntime) -> Result<(), Fail> {
-    let films = films_of(&rt, rt.alloc())?;
-    expect_receipts(&rt, rt.alloc(), &films, talks::refusals(), 2)?;
-    expect_receipts(&rt, rt.alloc(), &films, talks::small_buffer(), 0)?;
+fn answers_each_request(rt: HostRuntime) -> Result<(), Fail> {
+    let film = film_of(rt.alloc())?;
+    let films = only(&rt, &film);
+    for dialog in talks::dialogs() {
+        check_dialog(&rt, rt.alloc(), films, dialog)?;
+    }
     Ok(())
 }
 
@@ -307,8 +296,8 @@ fn prints_each_type(rt: HostRuntime) -> Result<(), Fail> {
         plan: Plan::new(Vec::new(rt.alloc())),
     };
     let (request, task) = (PlayRequest::Resumed(run), Task::Setup(1));
-    let films = films_of(&rt, rt.alloc())?;
-    let session = Session::new(rt.alloc(), &films, SETTINGS, WORDS)?;
+    let film = film_of(rt.alloc())?;
+    let session = Session::new(rt.alloc(), only(&rt, &film), SETTINGS, WORDS)?;
     let text = format!(in rt.alloc(); "{task:?} {request:?} {planned:?} {session:?}")?;
     let want =
         "Setup(1) Resumed(Run { first_unit: 0, end_unit: 9, from_unit: 4, sent: 30, played: 20 }) \

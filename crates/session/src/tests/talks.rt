@@ -37,8 +37,23 @@ pub(super) struct Row {
     pub(super) sent: &'static [u8],
 }
 
+/// A talk row by row, and what the session notes of it.
+pub(super) struct Dialog {
+    pub(super) rows: &'static [Row],
+    pub(super) receipts: &'static [Receipt],
+    pub(super) plays: usize,
+    pub(super) offers: usize,
+}
+
 /// Each method, with a play to its first slot; the PAUSE is answered behind the report.
-static METHODS: [Row; 10] = [
+const METHODS: Dialog = Dialog {
+    rows: &METHOD_ROWS,
+    receipts: &METHOD_RECEIPTS,
+    plays: 1,
+    offers: 1,
+};
+
+const METHOD_ROWS: [Row; 10] = [
     Row {
         comes: Comes::Request(b"OPTIONS * RTSP/1.0\r\nCSeq: 1\r\n\r\n"),
         told: Told::Nothing,
@@ -119,7 +134,14 @@ static METHODS: [Row; 10] = [
 ];
 
 /// Each code of a refusal but the 500, and but the 451 for a small buffer.
-static REFUSALS: [Row; 13] = [
+const REFUSALS: Dialog = Dialog {
+    rows: &REFUSAL_ROWS,
+    receipts: &REFUSAL_RECEIPTS,
+    plays: 0,
+    offers: 0,
+};
+
+const REFUSAL_ROWS: [Row; 13] = [
     Row {
         comes: Comes::Request(b"OPTIONS  * RTSP/1.0\r\nCSeq: 1\r\n\r\n"),
         told: Told::Nothing,
@@ -208,7 +230,14 @@ static REFUSALS: [Row; 13] = [
 ];
 
 /// A buffer that is a byte too small for the film.
-static SMALL_BUFFER: [Row; 2] = [
+const SMALL_BUFFER: Dialog = Dialog {
+    rows: &SMALL_BUFFER_ROWS,
+    receipts: &[],
+    plays: 0,
+    offers: 0,
+};
+
+const SMALL_BUFFER_ROWS: [Row; 2] = [
     Row {
         comes: Comes::Request(
             b"SETUP rtsp://h/b.mpg RTSP/1.0\r\nCSeq: 1\r\nTransport: RTP/AVP/TCP\r\n\
@@ -228,8 +257,7 @@ static SMALL_BUFFER: [Row; 2] = [
     },
 ];
 
-/// The receipts of [`METHODS`].
-static RECEIPTS: [Receipt; 3] = [
+const METHOD_RECEIPTS: [Receipt; 3] = [
     Receipt::Entry {
         place: 0,
         answer: Answer::Looked {
@@ -248,21 +276,26 @@ static RECEIPTS: [Receipt; 3] = [
     },
 ];
 
-// The proofs of the tests see the rows through these calls, which say nothing of them: so they
+const REFUSAL_RECEIPTS: [Receipt; 2] = [
+    Receipt::Entry {
+        place: 0,
+        answer: Answer::Overflow {
+            slot: 9,
+            booked: 50_000,
+            asked: 35,
+        },
+    },
+    Receipt::Full {
+        entries: 8,
+        live: 2,
+    },
+];
+
+static DIALOGS: [Dialog; 3] = [METHODS, REFUSALS, SMALL_BUFFER];
+
+// The proofs of the tests see the dialogs through this call, which says nothing of them: so they
 // don't carry the texts.
 
-pub(super) fn methods() -> &'static [Row] {
-    &METHODS
-}
-
-pub(super) fn receipts() -> &'static [Receipt] {
-    &RECEIPTS
-}
-
-pub(super) fn refusals() -> &'static [Row] {
-    &REFUSALS
-}
-
-pub(super) fn small_buffer() -> &'static [Row] {
-    &SMALL_BUFFER
+pub(super) fn dialogs() -> &'static [Dialog] {
+    &DIALOGS
 }
