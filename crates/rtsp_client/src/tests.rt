@@ -2,6 +2,7 @@
 
 use super::*;
 use std::alloc::Global;
+use std::process::Abort;
 use std::test::Fail;
 use vod_base::{Event, MAX_BYTES, MemoryLink, MemorySink, good_name};
 
@@ -317,7 +318,7 @@ fn events_of(alloc: Global, tells: &[Tell], cut: bool) -> Result<Vec<Event>, Fai
 }
 
 /// What comes of watching, what was sent and what was handed on.
-#[derive(Debug, Drop, PartialEq)]
+#[derive(Drop)]
 struct WatchOutcome {
     end: WatchEnd,
     sent: Vec<u8>,
@@ -326,6 +327,20 @@ struct WatchOutcome {
 
 /// The numbers of the calls that fail: sends, calls of `next`, and writes.
 type Failing = (&'static [u64], &'static [u64], &'static [u64]);
+
+/// No call fails.
+const NO_FAILING: Failing = (&[], &[], &[]);
+
+/// Calls that fail during the complete film, with what comes of it, how many requests are sent, and
+/// how many of the film's bytes are handed on.
+const FAILING_CALLS: &[(Failing, WatchEnd, usize, usize)] = &[
+    ((&[1], &[], &[]), WatchEnd::LinkFault, 0, 0),
+    ((&[2], &[], &[]), WatchEnd::LinkFault, 1, 0),
+    ((&[3], &[], &[]), WatchEnd::LinkFault, 2, 49),
+    ((&[], &[1], &[]), WatchEnd::LinkFault, 1, 0),
+    ((&[], &[11], &[]), WatchEnd::LinkFault, 3, 49),
+    ((&[], &[], &[2]), WatchEnd::SinkFault, 2, 34),
+];
 
 /// Watches the film over a link that gives these events, where these calls of the environment fail.
 fn watch_events(
@@ -384,37 +399,44 @@ fn film(alloc: Global, count: usize) -> Result<Vec<u8>, Fail> {
     Ok(bytes)
 }
 
-/// What should come of a case.
-fn wanted_outcome(alloc: Global, case: &Case) -> Result<WatchOutcome, Fail> {
+/// Compares what comes of a case where these calls fail, and each byte is an event of its own or
+/// not.
+fn check_run(
+    rt: &impl Abort,
+    alloc: Global,
+    number: usize,
+    case: &Case,
+    cut: bool,
+    failing: Failing,
+) -> Result<(), Fail> {
+    let events = events_of(alloc, case.tells, cut)?;
+    let got = watch_events(alloc, case.buffer, events, failing)?;
     let sent = requests(alloc, case.requests, case.buffer)?;
-    Ok(WatchOutcome {
-        end: case.end,
-        sent: Vec::from_slice(alloc, sent.as_bytes())?,
-        out: film(alloc, case.handed_on)?,
-    })
+    let out = film(alloc, case.handed_on)?;
+    assert_eq!(rt;
+        (got.end, got.sent.as_slice(), got.out.as_slice()),
+        (case.end, sent.as_bytes(), out.as_slice()),
+        "case {number} {cut} {failing:?}"
+    );
+    Ok(())
 }
 
-/// What comes of a case, where each byte is an event of its own or not.
-fn outcome(alloc: Global, case: &Case, cut: bool) -> Result<WatchOutcome, Fail> {
-    let events = events_of(alloc, case.tells, cut)?;
-    watch_events(alloc, case.buffer, events, (&[], &[], &[]))
+/// Compares what comes of a case where no call fails, in larger events and byte by byte.
+fn check_case(rt: &impl Abort, alloc: Global, number: usize, case: &Case) -> Result<(), Fail> {
+    check_run(rt, alloc, number, case, false, NO_FAILING)?;
+    check_run(rt, alloc, number, case, true, NO_FAILING)
 }
 
 #[test]
 fn watches_films(rt: HostRuntime) -> Result<(), Fail> {
-    let alloc = rt.alloc();
     for (number, case) in COMPLETE_CASES.iter().enumerate() {
-        for cut in [false, true] {
-            let got = outcome(alloc, case, cut)?;
-            assert_eq!(rt; got, wanted_outcome(alloc, case)?, "case {number} {cut}");
-        }
+        check_case(&rt, rt.alloc(), number, case)?;
     }
     Ok(())
 }
 
 #[test]
 fn faults_end_the_watching(rt: HostRuntime) -> Result<(), Fail> {
-    let alloc = rt.alloc();
     for (ways, fault, requests, handed_on) in FAULTS {
         for (number, tells) in ways.iter().enumerate() {
             let case = Case {
@@ -424,14 +446,7 @@ fn faults_end_the_watching(rt: HostRuntime) -> Result<(), Fail> {
                 requests: *requests,
                 handed_on: *handed_on,
             };
-            for cut in [false, true] {
-                let got = outcome(alloc, &case, cut)?;
-                assert_eq!(rt;
-                    got,
-                    wanted_outcome(alloc, &case)?,
-                    "{fault:?} {number} {cut}"
-                );
-            }
+            check_case(&rt, rt.alloc(), number, &case)?;
         }
     }
     Ok(())
@@ -439,25 +454,14 @@ fn faults_end_the_watching(rt: HostRuntime) -> Result<(), Fail> {
 
 #[test]
 fn blames_the_outside(rt: HostRuntime) -> Result<(), Fail> {
-    let alloc = rt.alloc();
-    let cases: [(Failing, WatchEnd, usize, usize); 6] = [
-        ((&[1], &[], &[]), WatchEnd::LinkFault, 0, 0),
-        ((&[2], &[], &[]), WatchEnd::LinkFault, 1, 0),
-        ((&[3], &[], &[]), WatchEnd::LinkFault, 2, 49),
-        ((&[], &[1], &[]), WatchEnd::LinkFault, 1, 0),
-        ((&[], &[11], &[]), WatchEnd::LinkFault, 3, 49),
-        ((&[], &[], &[2]), WatchEnd::SinkFault, 2, 34),
-    ];
-    for (failing, end, requests, handed_on) in cases {
+    for (number, (failing, end, requests, handed_on)) in FAILING_CALLS.iter().enumerate() {
         let case = Case {
-            end,
-            requests,
-            handed_on,
+            end: *end,
+            requests: *requests,
+            handed_on: *handed_on,
             ..COMPLETE
         };
-        let events = events_of(alloc, case.tells, false)?;
-        let got = watch_events(alloc, case.buffer, events, failing)?;
-        assert_eq!(rt; got, wanted_outcome(alloc, &case)?, "{failing:?}");
+        check_run(&rt, rt.alloc(), number, &case, false, *failing)?;
     }
     Ok(())
 }
@@ -467,7 +471,7 @@ fn refuses_an_endless_head(rt: HostRuntime) -> Result<(), Fail> {
     let alloc = rt.alloc();
     let mut events = Vec::new(alloc);
     events.push(Event::Bytes(vec![in alloc; b'a'; 16_384]?))?;
-    let got = watch_events(alloc, BUFFER, events, (&[], &[], &[]))?;
+    let got = watch_events(alloc, BUFFER, events, NO_FAILING)?;
     assert_eq!(rt; got.end, WatchEnd::Fault(WatchFault::Framing));
     Ok(())
 }
