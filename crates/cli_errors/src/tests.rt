@@ -1,5 +1,6 @@
 //! Lines and statuses.
 
+use crate::InputError::{Curves, Film, System};
 use crate::{CliError, InputError, status_of, write_error, write_number};
 use mpeg_scan::FilmFault;
 use std::test::Fail;
@@ -18,12 +19,12 @@ fn each_error_has_its_status_and_line(rt: HostRuntime) -> Result<(), Fail> {
             "vodserve: a.mpg: FilmTooLarge\n",
         ),
         (
-            CliError::Refused("a.mpg", InputError::Film(FilmFault::BadRate(17, 9))),
+            CliError::Refused("a.mpg", Film(FilmFault::BadRate(17, 9))),
             3,
             "vodserve: a.mpg: BadRate 17 9\n",
         ),
         (
-            CliError::Refused("a.mpg", InputError::System(SystemFault::Truncated(4))),
+            CliError::Refused("a.mpg", System(SystemFault::Truncated(4))),
             3,
             "vodserve: a.mpg: Truncated 4\n",
         ),
@@ -46,106 +47,65 @@ fn each_error_has_its_status_and_line(rt: HostRuntime) -> Result<(), Fail> {
     Ok(())
 }
 
-/// Refusals of the input `a`, with their lines.
+/// Refusals of the input `a`, with their texts.
 const REFUSALS: [(InputError, &'static str); 31] = [
-    (InputError::NotFound, "vodserve: a: NotFound\n"),
-    (InputError::BadTrace(7), "vodserve: a: BadTrace 7\n"),
-    (InputError::BadCert(7), "vodserve: a: BadCert 7\n"),
-    (InputError::BadScript(7), "vodserve: a: BadScript 7\n"),
-    (InputError::FilmTooLarge, "vodserve: a: FilmTooLarge\n"),
-    (InputError::NoConnection, "vodserve: a: NoConnection\n"),
-    (InputError::RefusedWith(404), "vodserve: a: Refused 404\n"),
-    (InputError::BadReply(7), "vodserve: a: BadReply 7\n"),
-    (InputError::BadFrame(7), "vodserve: a: BadFrame 7\n"),
-    (InputError::Framing, "vodserve: a: Framing\n"),
-    (InputError::EndedEarly(7), "vodserve: a: EndedEarly 7\n"),
-    (InputError::TurnsSpent, "vodserve: a: TurnsSpent\n"),
+    (InputError::NotFound, "NotFound"),
+    (InputError::BadTrace(7), "BadTrace 7"),
+    (InputError::BadCert(7), "BadCert 7"),
+    (InputError::BadScript(7), "BadScript 7"),
+    (InputError::FilmTooLarge, "FilmTooLarge"),
+    (InputError::NoConnection, "NoConnection"),
+    (InputError::RefusedWith(404), "Refused 404"),
+    (InputError::BadReply(7), "BadReply 7"),
+    (InputError::BadFrame(7), "BadFrame 7"),
+    (InputError::Framing, "Framing"),
+    (InputError::EndedEarly(7), "EndedEarly 7"),
+    (InputError::TurnsSpent, "TurnsSpent"),
+    (Curves(CurveFault::NoPictures), "NoPictures"),
     (
-        InputError::Curves(CurveFault::NoPictures),
-        "vodserve: a: NoPictures\n",
+        Curves(CurveFault::TooManySlots { slots: 7 }),
+        "TooManySlots 7",
     ),
     (
-        InputError::Curves(CurveFault::TooManySlots { slots: 7 }),
-        "vodserve: a: TooManySlots 7\n",
-    ),
-    (
-        InputError::Curves(CurveFault::BufferTooSmall {
+        Curves(CurveFault::BufferTooSmall {
             slot: 7,
             used: 8,
             least: 9,
         }),
-        "vodserve: a: BufferTooSmall 7 8 9\n",
+        "BufferTooSmall 7 8 9",
     ),
-    (InputError::Film(FilmFault::Empty), "vodserve: a: Empty\n"),
+    (Film(FilmFault::Empty), "Empty"),
+    (Film(FilmFault::NoSequence), "NoSequence"),
+    (Film(FilmFault::SystemCode(7)), "SystemCode 7"),
+    (Film(FilmFault::Mpeg2(7)), "Mpeg2 7"),
+    (Film(FilmFault::ShortHeader(7)), "ShortHeader 7"),
+    (Film(FilmFault::BadRate(7, 8)), "BadRate 7 8"),
+    (Film(FilmFault::BadType(7)), "BadType 7"),
     (
-        InputError::Film(FilmFault::NoSequence),
-        "vodserve: a: NoSequence\n",
+        Film(FilmFault::PictureWithoutSlices(7)),
+        "PictureWithoutSlices 7",
     ),
+    (Film(FilmFault::HeadTooLong(7)), "HeadTooLong 7"),
+    (Film(FilmFault::GroupTooLong(7)), "GroupTooLong 7"),
+    (Film(FilmFault::TooLong), "TooLong"),
     (
-        InputError::Film(FilmFault::SystemCode(7)),
-        "vodserve: a: SystemCode 7\n",
+        Film(FilmFault::HeadWithoutPicture(7)),
+        "HeadWithoutPicture 7",
     ),
-    (
-        InputError::Film(FilmFault::Mpeg2(7)),
-        "vodserve: a: Mpeg2 7\n",
-    ),
-    (
-        InputError::Film(FilmFault::ShortHeader(7)),
-        "vodserve: a: ShortHeader 7\n",
-    ),
-    (
-        InputError::Film(FilmFault::BadRate(7, 8)),
-        "vodserve: a: BadRate 7 8\n",
-    ),
-    (
-        InputError::Film(FilmFault::BadType(7)),
-        "vodserve: a: BadType 7\n",
-    ),
-    (
-        InputError::Film(FilmFault::PictureWithoutSlices(7)),
-        "vodserve: a: PictureWithoutSlices 7\n",
-    ),
-    (
-        InputError::Film(FilmFault::HeadTooLong(7)),
-        "vodserve: a: HeadTooLong 7\n",
-    ),
-    (
-        InputError::Film(FilmFault::GroupTooLong(7)),
-        "vodserve: a: GroupTooLong 7\n",
-    ),
-    (
-        InputError::Film(FilmFault::TooLong),
-        "vodserve: a: TooLong\n",
-    ),
-    (
-        InputError::Film(FilmFault::HeadWithoutPicture(7)),
-        "vodserve: a: HeadWithoutPicture 7\n",
-    ),
-    (
-        InputError::System(SystemFault::NotPack(7)),
-        "vodserve: a: NotPack 7\n",
-    ),
-    (
-        InputError::System(SystemFault::BadCode(7)),
-        "vodserve: a: BadCode 7\n",
-    ),
-    (
-        InputError::System(SystemFault::BadPacket(7)),
-        "vodserve: a: BadPacket 7\n",
-    ),
-    (
-        InputError::System(SystemFault::Truncated(7)),
-        "vodserve: a: Truncated 7\n",
-    ),
+    (System(SystemFault::NotPack(7)), "NotPack 7"),
+    (System(SystemFault::BadCode(7)), "BadCode 7"),
+    (System(SystemFault::BadPacket(7)), "BadPacket 7"),
+    (System(SystemFault::Truncated(7)), "Truncated 7"),
 ];
 
 #[test]
 fn each_refusal_has_its_name(rt: HostRuntime) -> Result<(), Fail> {
     let alloc = rt.alloc();
-    for (fault, line) in REFUSALS {
+    for (fault, text) in REFUSALS {
         let error = CliError::Refused("a", fault);
         let mut sink = MemorySink::new(alloc, 64, Vec::new(alloc))?;
-        assert!(rt; write_error(&mut sink, error).is_ok(), "at {line}");
+        assert!(rt; write_error(&mut sink, error).is_ok(), "at {text}");
+        let line = format!(in alloc; "vodserve: a: {text}\n")?;
         assert_eq!(rt; sink.bytes(), line.as_bytes());
     }
     Ok(())
