@@ -10,12 +10,10 @@ mod scenes;
 mod serves;
 mod watches;
 
-use crate::tests::scenes::passes;
+use crate::tests::scenes::pass_all;
 use std::alloc::Global;
-use std::process::Abort;
-use std::sync::Wait;
 use std::test::Fail;
-use std::thread::Threads;
+use vod_base::NoMemory;
 
 /// Plans of traces, and verdicts on certificates of them.
 const PLANS: &str = "\
@@ -178,50 +176,6 @@ ends 0
 0 vodserve 0.1.0|
 ";
 
-#[test]
-fn plans_and_checks_traces(rt: HostRuntime) -> Result<(), Fail> {
-    passes(&rt, rt.alloc(), PLANS)
-}
-
-/// Plays a script in which these arguments mean nothing.
-fn mean_nothing<R: Threads + Wait + Sync + Abort>(
-    rt: &R,
-    alloc: Global,
-    words: &str,
-) -> Result<(), Fail> {
-    let script = format!(in alloc; "> {words}\n2 vodserve: usage|\n")?;
-    passes(rt, alloc, script.as_str())
-}
-
-#[test]
-fn names_words_without_meaning(rt: HostRuntime) -> Result<(), Fail> {
-    let alloc = rt.alloc();
-    for words in WITHOUT_MEANING {
-        mean_nothing(&rt, alloc, words)?;
-    }
-    let mut too_many = String::from_str(alloc, "serve")?;
-    for number in 0..65 {
-        let film = format!(in alloc; " film={number}.mpg")?;
-        too_many.push_str(film.as_str())?;
-    }
-    mean_nothing(&rt, alloc, too_many.as_str())
-}
-
-#[test]
-fn names_every_refusal(rt: HostRuntime) -> Result<(), Fail> {
-    passes(&rt, rt.alloc(), REFUSALS)
-}
-
-#[test]
-fn says_what_failed(rt: HostRuntime) -> Result<(), Fail> {
-    passes(&rt, rt.alloc(), FAULTS)
-}
-
-#[test]
-fn makes_the_same_from_a_number(rt: HostRuntime) -> Result<(), Fail> {
-    passes(&rt, rt.alloc(), MADE)
-}
-
 /// The certificate of a long film is that of the sizes of its units on the wire.
 const LONG: &str = "\
 > make seed=5 pictures=20000 kind=film
@@ -236,6 +190,28 @@ is cert
 ";
 
 #[test]
-fn plans_a_long_film(rt: HostRuntime) -> Result<(), Fail> {
-    passes(&rt, rt.alloc(), LONG)
+fn plans_checks_and_makes(rt: HostRuntime) -> Result<(), Fail> {
+    pass_all(&rt, rt.alloc(), &[PLANS, REFUSALS, FAULTS, MADE, LONG])
+}
+
+/// A script of command lines that mean nothing: those above, and one with too many films.
+fn without_meaning(alloc: Global) -> Result<String, NoMemory> {
+    let mut script = String::new(alloc);
+    for words in WITHOUT_MEANING {
+        let run = format!(in alloc; "> {words}\n2 vodserve: usage|\n")?;
+        script.push_str(run.as_str())?;
+    }
+    script.push_str("> serve")?;
+    for number in 0..65 {
+        let film = format!(in alloc; " film={number}.mpg")?;
+        script.push_str(film.as_str())?;
+    }
+    script.push_str("\n2 vodserve: usage|\n")?;
+    Ok(script)
+}
+
+#[test]
+fn names_words_without_meaning(rt: HostRuntime) -> Result<(), Fail> {
+    let script = without_meaning(rt.alloc())?;
+    pass_all(&rt, rt.alloc(), &[script.as_str()])
 }

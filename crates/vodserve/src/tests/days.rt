@@ -1,6 +1,6 @@
 //! Scripts and drawn plays through `run`.
 
-use crate::tests::scenes::{passes, refusals_of};
+use crate::tests::scenes::{pass_all, refusals_of};
 use std::test::Fail;
 
 /// A link that has room for one play at a time, lines that end with CR LF, a client that can't be
@@ -146,11 +146,6 @@ const BAD_SCRIPTS: &[(&str, &str)] = &[
 
 #[test]
 fn runs_scripts_and_drawn_plays(rt: HostRuntime) -> Result<(), Fail> {
-    passes(&rt, rt.alloc(), DAYS)
-}
-
-#[test]
-fn names_the_first_bad_line(rt: HostRuntime) -> Result<(), Fail> {
-    let script = refusals_of(rt.alloc(), "file", "day script", BAD_SCRIPTS)?;
-    passes(&rt, rt.alloc(), script.as_str())
+    let bad = refusals_of(rt.alloc(), "file", "day script", BAD_SCRIPTS)?;
+    pass_all(&rt, rt.alloc(), &[DAYS, bad.as_str()])
 }

@@ -1,7 +1,9 @@
 //! Films and system streams through `run`.
 
-use crate::tests::scenes::{passes, refusals_of};
+use crate::tests::scenes::{pass_all, refusals_of};
+use std::alloc::Global;
 use std::test::Fail;
+use vod_base::NoMemory;
 
 /// What a scan of `a.mpg` prints.
 const SCAN_OF_A: &str = "\
@@ -107,21 +109,23 @@ const REFUSED: &[(&str, &str)] = &[
     ),
 ];
 
-#[test]
-fn scans_and_plans_films(rt: HostRuntime) -> Result<(), Fail> {
-    let mut script = String::new(rt.alloc());
-    for part in FILMS {
+fn joined(alloc: Global, parts: &[&str]) -> Result<String, NoMemory> {
+    let mut script = String::new(alloc);
+    for part in parts {
         script.push_str(part)?;
     }
-    passes(&rt, rt.alloc(), script.as_str())
+    Ok(script)
 }
 
 #[test]
-fn names_the_refusal_of_a_film(rt: HostRuntime) -> Result<(), Fail> {
+fn scans_and_plans_films(rt: HostRuntime) -> Result<(), Fail> {
     let alloc = rt.alloc();
-    for command in ["scan film", "plan film"] {
-        let script = refusals_of(alloc, "bytes", command, REFUSED)?;
-        passes(&rt, alloc, script.as_str())?;
-    }
-    Ok(())
+    let films = joined(alloc, FILMS)?;
+    let scans = refusals_of(alloc, "bytes", "scan film", REFUSED)?;
+    let plans = refusals_of(alloc, "bytes", "plan film", REFUSED)?;
+    pass_all(
+        &rt,
+        alloc,
+        &[films.as_str(), scans.as_str(), plans.as_str()],
+    )
 }

@@ -14,14 +14,16 @@ use vod_base::{Event, MemoryGate, MemoryLibrary, MemoryLink, MemoryPart, MemoryS
 /// The most bytes that an object in memory holds.
 const ROOM: usize = 1 << 25;
 
-/// Plays a script. Where memory is refused, its name says so, and the script is played once more.
-pub(crate) fn passes<R: Threads + Wait + Sync + Abort>(
+/// Plays scripts. Where memory is refused, its name says so, and the script is played once more.
+pub(crate) fn pass_all<R: Threads + Wait + Sync + Abort>(
     rt: &R,
     alloc: Global,
-    script: &str,
+    scripts: &[&str],
 ) -> Result<(), Fail> {
-    if play_out(rt, alloc, script).is_err() {
-        play_out(rt, alloc, script)?;
+    for script in scripts {
+        if play_out(rt, alloc, script).is_err() {
+            play_out(rt, alloc, script)?;
+        }
     }
     Ok(())
 }

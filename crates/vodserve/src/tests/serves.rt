@@ -3,7 +3,7 @@
 //! A connection's identity is drawn from the seed of 32 bytes 7: these are the words that a plain
 //! ChaCha20 gives for it.
 
-use crate::tests::scenes::passes;
+use crate::tests::scenes::pass_all;
 use std::test::Fail;
 
 /// A film of two pictures, as two workers, a failing part, and a look in mid-report have it.
@@ -144,16 +144,6 @@ ends 0
 ";
 
 #[test]
-fn serves_a_short_film(rt: HostRuntime) -> Result<(), Fail> {
-    passes(&rt, rt.alloc(), SHORT)
-}
-
-#[test]
-fn names_what_kept_it_from_serving(rt: HostRuntime) -> Result<(), Fail> {
-    passes(&rt, rt.alloc(), KEPT)
-}
-
-#[test]
-fn serves_an_ordinary_session(rt: HostRuntime) -> Result<(), Fail> {
-    passes(&rt, rt.alloc(), ORDINARY)
+fn serves_sessions(rt: HostRuntime) -> Result<(), Fail> {
+    pass_all(&rt, rt.alloc(), &[SHORT, KEPT, ORDINARY])
 }

@@ -1,6 +1,6 @@
 //! `watch` through `run`, over a gate in memory.
 
-use crate::tests::scenes::passes;
+use crate::tests::scenes::pass_all;
 use std::test::Fail;
 
 /// A film of two pictures, slot by slot as its plan has it, and what prevents a client from
@@ -88,5 +88,5 @@ sends asks_setup asks_play
 
 #[test]
 fn watches_a_film(rt: HostRuntime) -> Result<(), Fail> {
-    passes(&rt, rt.alloc(), WATCHED)
+    pass_all(&rt, rt.alloc(), &[WATCHED])
 }
