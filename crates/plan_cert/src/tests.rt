@@ -9,11 +9,8 @@ use vod_base::{MAX_BYTES, MAX_SLOTS};
 /// Segments, given as pairs of slots and bytes.
 fn segments_of(alloc: Global, pairs: &[(u64, u64)]) -> Result<Vec<Segment>, AllocError> {
     let mut segments = Vec::new(alloc);
-    for (slots, bytes) in pairs {
-        segments.push(Segment {
-            slots: *slots,
-            bytes: *bytes,
-        })?;
+    for &(slots, bytes) in pairs {
+        segments.push(Segment { slots, bytes })?;
     }
     Ok(segments)
 }
@@ -188,8 +185,8 @@ fn names_the_line(rt: &impl Abort, alloc: Global, text: &str, line: u64) {
 }
 
 #[test]
-fn names_the_bad_line_of_a_head(rt: HostRuntime) {
-    let rows: [(&str, u64); 12] = [
+fn names_the_bad_line(rt: HostRuntime) {
+    let rows: [(&str, u64); 24] = [
         ("", 1),
         ("smooth 1", 1),
         ("smooth 1\n", 2),
@@ -205,15 +202,7 @@ fn names_the_bad_line_of_a_head(rt: HostRuntime) {
         ("smooth 1\nslots 4\nbytes 7\nsegment 3 7\nend\n", 2),
         ("smooth 1\nslots 3\nbytes 8\nsegment 3 7\nend\n", 3),
         ("smooth 1\nslots 4\nbytes 8\nsegment 3 7\nend\n", 2),
-    ];
-    for (text, line) in rows {
-        names_the_line(&rt, rt.alloc(), text, line);
-    }
-}
-
-#[test]
-fn names_the_bad_line_after_a_head(rt: HostRuntime) {
-    let rows: [(&str, u64); 12] = [
+        // after a head
         ("smooth 1\nslots 3\nbytes 7\nsegment 3 7\n", 5),
         ("smooth 1\nslots 3\nbytes 7\nsegment 03 7\nend\n", 4),
         ("smooth 1\nslots 3\nbytes 7\nsegment 3 07\nend\n", 4),

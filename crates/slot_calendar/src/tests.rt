@@ -13,11 +13,8 @@ use std::test::Fail;
 
 fn plan_of(rt: &impl Abort, alloc: Global, pairs: &[(u64, u64)]) -> Result<Plan, AllocError> {
     let mut segments = Vec::new(alloc);
-    for (slots, bytes) in pairs {
-        segments.push(Segment {
-            slots: *slots,
-            bytes: *bytes,
-        })?;
+    for &(slots, bytes) in pairs {
+        segments.push(Segment { slots, bytes })?;
     }
     assert!(rt; Plan::is_allowed(segments.as_slice()));
     Ok(Plan::new(segments))
@@ -25,11 +22,8 @@ fn plan_of(rt: &impl Abort, alloc: Global, pairs: &[(u64, u64)]) -> Result<Plan,
 
 fn steps_of(alloc: Global, pairs: &[(u64, u64)]) -> Result<Vec<CapStep>, AllocError> {
     let mut steps = Vec::new(alloc);
-    for (from, bytes) in pairs {
-        steps.push(CapStep {
-            from: *from,
-            bytes: *bytes,
-        })?;
+    for &(from, bytes) in pairs {
+        steps.push(CapStep { from, bytes })?;
     }
     Ok(steps)
 }
