@@ -18,11 +18,8 @@ fn curves_of(alloc: Global, low: &[u64], up: &[u64]) -> Result<Curves, AllocErro
 
 fn segments_of(alloc: Global, pairs: &[(u64, u64)]) -> Result<Vec<Segment>, AllocError> {
     let mut segments = Vec::new(alloc);
-    for (slots, bytes) in pairs {
-        segments.push(Segment {
-            slots: *slots,
-            bytes: *bytes,
-        })?;
+    for &(slots, bytes) in pairs {
+        segments.push(Segment { slots, bytes })?;
     }
     Ok(segments)
 }
