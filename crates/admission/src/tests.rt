@@ -23,11 +23,8 @@ pub(crate) fn plan_of(
     pairs: &[(u64, u64)],
 ) -> Result<Plan, AllocError> {
     let mut segments = Vec::new(alloc);
-    for (slots, bytes) in pairs {
-        segments.push(Segment {
-            slots: *slots,
-            bytes: *bytes,
-        })?;
+    for &(slots, bytes) in pairs {
+        segments.push(Segment { slots, bytes })?;
     }
     assert!(rt; Plan::is_allowed(segments.as_slice()));
     Ok(Plan::new(segments))
@@ -40,11 +37,8 @@ pub(crate) fn book_of(
     limit: u64,
 ) -> Result<Book, Fail> {
     let mut steps = Vec::new(alloc);
-    for (from, bytes) in pairs {
-        steps.push(CapStep {
-            from: *from,
-            bytes: *bytes,
-        })?;
+    for &(from, bytes) in pairs {
+        steps.push(CapStep { from, bytes })?;
     }
     assert!(rt; Profile::is_allowed(steps.as_slice()));
     assert!(rt; limit >= 2 && limit <= MAX_ENTRIES);
