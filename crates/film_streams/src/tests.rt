@@ -42,6 +42,17 @@ fn counts_sequence_numbers_on_and_wraps(rt: HostRuntime) {
     }
 }
 
+/// A SETUP of the film's stream that has this head.
+fn setup_of(head: &str) -> Request<'_> {
+    Request {
+        method: b"SETUP",
+        url: b"rtsp://h/b.mpg/video",
+        sequence: 1,
+        head: head.as_bytes(),
+        body: b"",
+    }
+}
+
 #[test]
 fn reads_what_a_setup_names(rt: HostRuntime) {
     for (head, channels, buffer, delay) in [
@@ -67,13 +78,7 @@ fn reads_what_a_setup_names(rt: HostRuntime) {
             None,
         ),
     ] {
-        let request = Request {
-            method: b"SETUP",
-            url: b"rtsp://h/b.mpg/video",
-            sequence: 1,
-            head: head.as_bytes(),
-            body: b"",
-        };
+        let request = setup_of(head);
         let found = channels_of(&request).map(|it| (it.media, it.control));
         assert_eq!(rt; found, channels, "at {head}");
         assert_eq!(rt; buffer_of(&request, &SETTINGS), buffer, "at {head}");
@@ -99,13 +104,7 @@ fn reads_a_setup(rt: HostRuntime) {
             Err(Refusal::Parameter),
         ),
     ] {
-        let request = Request {
-            method: b"SETUP",
-            url: b"rtsp://h/b.mpg/video",
-            sequence: 1,
-            head: head.as_bytes(),
-            body: b"",
-        };
+        let request = setup_of(head);
         let read = match read_setup(&request, 1, &SETTINGS) {
             Ok(setup) => {
                 let on = setup.channels();
