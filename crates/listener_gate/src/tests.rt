@@ -1,5 +1,6 @@
 //! Over a listener in memory.
 
+use super::ListenerDoing::{Accepted, Bound, ShortageError, TransientError, Waited};
 use super::*;
 use std::alloc::{AllocError, Global};
 use std::fmt;
@@ -82,61 +83,73 @@ fn takes_as_many_as_it_may(rt: HostRuntime) -> Result<(), Fail> {
     Ok(())
 }
 
+/// What the listener does for two connections, where the shortages before the first make the gate
+/// wait longer and longer, up to a second.
+const DOINGS: [ListenerDoing; 22] = [
+    Bound([127, 0, 0, 1], 554, 14_400),
+    ShortageError,
+    Waited(10),
+    ShortageError,
+    Waited(20),
+    TransientError,
+    ShortageError,
+    Waited(40),
+    ShortageError,
+    Waited(80),
+    ShortageError,
+    Waited(160),
+    ShortageError,
+    Waited(320),
+    ShortageError,
+    Waited(640),
+    ShortageError,
+    Waited(1_000),
+    Accepted,
+    ShortageError,
+    Waited(10),
+    Accepted,
+];
+
 #[test]
 fn waits_out_shortages(rt: HostRuntime) -> Result<(), Fail> {
-    use ListenerDoing::{Accepted, ShortageError, TransientError, Waited};
     let mut gives = [SHORT; 12];
     gives[2] = LOST;
     gives[9] = Give::Conn;
     gives[11] = Give::Conn;
     let mut gate = open_gate(rt.alloc(), &gives, None, &HOW)?;
-    assert_eq!(rt; taken(&mut gate), 'c');
-    assert_eq!(rt; taken(&mut gate), 'c');
-    let mut want = Vec::new(rt.alloc());
-    want.push(ListenerDoing::Bound([127, 0, 0, 1], 554, 14_400))?;
-    for (number, ms) in [10, 20, 40, 80, 160, 320, 640, 1_000]
-        .into_iter()
-        .enumerate()
-    {
-        if number == 2 {
-            want.push(TransientError)?;
-        }
-        want.push(ShortageError)?;
-        want.push(Waited(ms))?;
-    }
-    want.push(Accepted)?;
-    want.push(ShortageError)?;
-    want.push(Waited(10))?;
-    want.push(Accepted)?;
-    assert_eq!(rt; gate.listener().doings(), want.as_slice());
+    assert_eq!(rt; (taken(&mut gate), taken(&mut gate)), ('c', 'c'));
+    assert_eq!(rt; gate.listener().doings(), DOINGS.as_slice());
     Ok(())
+}
+
+/// What the first `take` of such a gate answers.
+fn first_taken(alloc: Global, gives: &[Give], failing: Option<u64>) -> Result<char, Fail> {
+    let mut gate = open_gate(alloc, gives, failing, &HOW)?;
+    Ok(taken(&mut gate))
 }
 
 #[test]
 fn fails_where_the_listener_fails(rt: HostRuntime) -> Result<(), Fail> {
-    // the accept is broken; the wait of the second call fails; the script is at its end
-    for (gives, failing) in [
-        ([LOST, BROKEN].as_slice(), None),
-        ([SHORT, Give::Conn].as_slice(), Some(2)),
-        ([].as_slice(), None),
-    ] {
-        let mut gate = open_gate(rt.alloc(), gives, failing, &HOW)?;
-        assert_eq!(rt; taken(&mut gate), 'f');
-    }
+    let alloc = rt.alloc();
+    let broken = first_taken(alloc, &[LOST, BROKEN], None)?;
+    assert_eq!(rt; broken, 'f', "the accept is broken");
+    let waiting = first_taken(alloc, &[SHORT, Give::Conn], Some(2))?;
+    assert_eq!(rt; waiting, 'f', "the wait fails");
+    let ended = first_taken(alloc, &[], None)?;
+    assert_eq!(rt; ended, 'f', "the script is at its end");
+    Ok(())
+}
+
+#[test]
+fn opens_after_a_fault(rt: HostRuntime) -> Result<(), Fail> {
     let mut gate = ListenerGate::new(listener_of(rt.alloc(), &[Give::Conn], Some(1))?);
     assert_eq!(rt; taken(&mut gate), 'f', "not open");
     assert_eq!(rt; gate.open(&HOW), Err(GateFault));
     assert_eq!(rt; taken(&mut gate), 'f', "not bound");
     assert_eq!(rt; gate.open(&Opening { all: true, ..HOW }), Ok(()));
     assert_eq!(rt; taken(&mut gate), 'c');
-    assert_eq!(rt;
-        gate.listener().doings(),
-        [
-            ListenerDoing::Bound([0, 0, 0, 0], 554, 14_400),
-            ListenerDoing::Accepted
-        ]
-        .as_slice()
-    );
+    let want = [Bound([0, 0, 0, 0], 554, 14_400), Accepted];
+    assert_eq!(rt; gate.listener().doings(), want.as_slice());
     Ok(())
 }
 
@@ -168,10 +181,7 @@ fn parts_go_out_and_come_back(rt: HostRuntime) -> Result<(), Fail> {
     };
     part.give_back(conn);
     assert_eq!(rt; part.listener().ended(), 1);
-    assert_eq!(rt;
-        part.listener().doings(),
-        [ListenerDoing::Accepted].as_slice()
-    );
+    assert_eq!(rt; part.listener().doings(), [Accepted].as_slice());
     gate.rejoin(part);
     assert_eq!(rt; gate.listener().doings().len(), 2);
     Ok(())
