@@ -1,8 +1,7 @@
 //! What is sent in each slot, and that in the end it is the entire track.
 
-ghost use Rattle.pacer.specs.Laws.{SendsNothing, DoPartsJoin, OfSteps, SendsNext};
-ghost use Rattle.pacer.specs.Laws.{SendsTheTrack, SendsThrough, StopsAtBoundary};
-ghost use Rattle.pacer.specs.Laws.{IsBoundaryExact, IsDoneExact};
+ghost use Rattle.pacer.specs.Laws.{SendsNothing, DoPartsJoin, OfSteps, SendsNext, SendsTheTrack};
+ghost use Rattle.pacer.specs.Laws.{SendsThrough, StopsAtBoundary, IsBoundaryExact, IsDoneExact};
 ghost use Rattle.pacer.specs.PacerStates.{IsPacerState, PacerState};
 
 /// What is due in a slot: nothing before the plan's start, and from then on exactly what the plan

@@ -49,31 +49,18 @@ pub struct Pacer<T: Track> {
 impl<T: Track> Model for Pacer<T> {
     ghost use Rattle.std.specs.Prelude.{◌≡◌, length};
     ghost use Rattle.film_frames.specs.Tracks.{framed_bytes};
-    ghost use Rattle.pacer.specs.PacerStates.{PacerState, slots_through, IsPacerState};
+    ghost use Rattle.pacer.specs.PacerStates.{PacerState, IsPacerState, new_pacer_state};
+    ghost use Rattle.pacer.specs.PacerStates.{with_progress};
 
     ghost Value = { PacerState };
 
-    ghost view = { λ p. record {
-      pieces = T.pieces p.track;
-      before = p.before;
-      plan = p.cursor;
-      start = p.start;
-      keep = p.keep;
-      passed = slots_through p.last;
-      due = p.due;
-      sent = p.sent;
-    } };
+    ghost view = { λ p.
+        with_progress (new_pacer_state (T.pieces p.track) p.before p.cursor p.start)
+        p.keep p.last p.due p.sent };
 
-    ghost invariant = { λ p. IsPacerState (record {
-      pieces = T.pieces p.track;
-      before = p.before;
-      plan = p.cursor;
-      start = p.start;
-      keep = p.keep;
-      passed = slots_through p.last;
-      due = p.due;
-      sent = p.sent;
-    })
+    ghost invariant = { λ p. IsPacerState (
+        with_progress (new_pacer_state (T.pieces p.track) p.before p.cursor p.start)
+        p.keep p.last p.due p.sent)
         × (p.total ≡ length (framed_bytes (T.pieces p.track))) };
 }
 
@@ -85,9 +72,8 @@ impl<T: Track> fmt::Debug for Pacer<T> {
 
 impl<T: Track> Pacer<T> {
     ghost use Rattle.pacer.specs.PacerStates.{new_pacer_state, IsPacerState, next_boundary};
-    ghost use Rattle.pacer.specs.PacerStates.{at_slot};
-    ghost use Rattle.pacer.specs.PacerStates.{plan_bytes, step_end, after_step, stands_at_boundary};
-    ghost use Rattle.pacer.specs.PacerStates.{is_done};
+    ghost use Rattle.pacer.specs.PacerStates.{at_slot, plan_bytes, step_end, after_step};
+    ghost use Rattle.pacer.specs.PacerStates.{stands_at_boundary, is_done};
     ghost use Rattle.pacer.specs.Steps.{IsStepped, HasFailed};
 
     /// Makes a pacer of a plan that begins in slot `start`. The plan's first byte stands at the

@@ -1,7 +1,7 @@
 use Rattle.std.proofs.Common.{◌≡◌, ◌-◌, List, length, subst, sym}
 use Rattle.film_frames.specs.Tracks.{framed_bytes}
 use Rattle.plan_cert.specs.declared.Segment.{Segment}
-use Rattle.pacer.specs.PacerStates.{IsPacerState}
+use Rattle.pacer.specs.PacerStates.{IsPacerState, new_pacer_state}
 use Rattle.pacer.proofs.PacerStateLemmas.{new-pacing}
 use Rattle.pacer.proofs.pacers.Pacer.new.Goals as goal
 
@@ -10,16 +10,7 @@ invariant_of-result g c =
     let pieces = g.T.Track.pieces c.args.track in
     let total = c.total-total.result in
     let P : List Segment → Type 0 = λ plan.
-    IsPacerState (record {
-      pieces = pieces;
-      before = c.args.sent_before;
-      plan = plan;
-      start = c.args.start;
-      keep = total - c.args.sent_before;
-      passed = 0;
-      due = 0;
-      sent = 0;
-    })
+    IsPacerState (record (new_pacer_state pieces c.args.sent_before plan c.args.start) { keep = total - c.args.sent_before })
     × (total ≡ length (framed_bytes pieces)) in
     let at_plan : P c.args.plan =
     new-pacing c.args.start c.requires.boundary c.requires.whole c.total-total.ensures

@@ -1,7 +1,7 @@
-use Rattle.std.proofs.Common.{◌≡◌, ◌+◌, ◌-◌, ℕ, List, length, ap, sym, subst, ◌∙◌, min, max, arith}
+use Rattle.std.proofs.Common.{◌≡◌, ◌+◌, ◌-◌, ◌≤◌, ℕ, List, length, ap, sym, subst, ◌∙◌, min, max, arith}
 use Rattle.film_frames.specs.Tracks.{framed_bytes}
 use Rattle.plan_cert.specs.declared.Segment.{Segment}
-use Rattle.pacer.specs.PacerStates.{IsPacerState, first_slots, slots_through}
+use Rattle.pacer.specs.PacerStates.{IsPacerState, first_slots, new_pacer_state, slots_through, with_progress}
 use Rattle.pacer.proofs.PacerStateLemmas.{due-of-both}
 use Rattle.pacer.proofs.pacers.Pacer.raise.Goals as goal
 
@@ -18,27 +18,8 @@ invariant_of-self g c =
     ∙ ap (λ n. max old.due n) (c.min-reached.ensures ∙ ap (λ n. min n old.keep) c.sum_at.ensures.value)
     ∙ both ∙ ap (λ n. min (first_slots old.cursor n) old.keep) (sym c.later_of-self-inside.ensures) in
     let P : List Segment → Type 0 = λ plan.
-    IsPacerState (record {
-      pieces = pieces;
-      before = old.before;
-      plan = plan;
-      start = old.start;
-      keep = old.keep;
-      passed = slots_through c.later_of-self-inside.result;
-      due = c.max-self-inside.result;
-      sent = old.sent;
-    })
+    IsPacerState (with_progress (new_pacer_state pieces old.before plan old.start) old.keep
+    c.later_of-self-inside.result c.max-self-inside.result old.sent)
     × (old.total ≡ length (framed_bytes pieces)) in
-    subst P (sym c.sum_at.ensures.plan) (
-      record {
-        plan = is.plan;
-        whole = is.whole;
-        short = is.short;
-        begins = is.begins;
-        ends = is.ends;
-        most = is.most;
-        due = due;
-        sent = omega (arith, is.sent, c.max-self-inside.ensures);
-      },
-      c.self.invariant.1,
-    )
+    let sent : old.sent ≤ c.max-self-inside.result = omega (arith, is.sent, c.max-self-inside.ensures) in
+    subst P (sym c.sum_at.ensures.plan) (assumption (is, due, sent), c.self.invariant.1)
