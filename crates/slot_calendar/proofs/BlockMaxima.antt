@@ -14,19 +14,14 @@ pub block-in : (p : ℕ) → p < ring_slots → p / 1024 < 1024
 block-in p inside = omega (arith, inside)
 
 -- a place of a ring, and the number to which its own rises
-pub record Raise : Type 0 where
-  pub places : List ℕ
-  pub tops : List ℕ
-  pub stale : Option ℕ
-  pub place : ℕ
-  pub value : ℕ
+pub record Raise (places tops : List ℕ) (stale : Option ℕ) (p v : ℕ) : Type 0 where
   pub maxima : AreBlockMaxima places tops stale
-  pub inside : place < ring_slots
-  pub rises : get_or places place 0 ≤ value
+  pub inside : p < ring_slots
+  pub rises : get_or places p 0 ≤ v
 
 -- the places with it, and the greatest totals of the blocks
-module _ (raise : Raise) where
-  open raise use {places, tops, place as p, value as v, maxima, inside}
+module _ {places tops : List ℕ} {stale : Option ℕ} {p v : ℕ} (raise : Raise places tops stale p v) where
+  open raise use {maxima, inside}
 
   abbrev block : ℕ
   block = p / 1024
@@ -111,7 +106,7 @@ module _ (raise : Raise) where
       }
 
   -- a place whose number rises
-  pub topped-raise : AreBlockMaxima raised raised_tops raise.stale
+  pub topped-raise : AreBlockMaxima raised raised_tops stale
   topped-raise = record {
     places_are = length-set places p v ∙ maxima.places_are;
     tops_are = length-set tops block top ∙ maxima.tops_are;
@@ -157,38 +152,33 @@ topped-lower {places} {tops} p v topped inside falls = record {
 }
 
 -- the stale block, and its greatest number as it is read again
-pub record Settle : Type 0 where
-  pub places : List ℕ
-  pub tops : List ℕ
-  pub stale : Option ℕ
-  pub block : ℕ
-  pub top : ℕ
+pub record Settle (places tops : List ℕ) (stale : Option ℕ) (b top : ℕ) : Type 0 where
   pub maxima : AreBlockMaxima places tops stale
-  pub is : stale ≡ Some block
-  pub greatest : IsGreatest (take 1024 (drop (block * 1024) places)) top
+  pub is : stale ≡ Some b
+  pub greatest : IsGreatest (take 1024 (drop (b * 1024) places)) top
 
-settle_length : (settle : Settle)
-    → length (take 1024 (drop (settle.block * 1024) settle.places)) ≡ 1024
-settle_length settle = length-take-le 1024 (drop (settle.block * 1024) settle.places)
+settle_length : {places tops : List ℕ} {stale : Option ℕ} {b top : ℕ} (settle : Settle places tops stale b top)
+    → length (take 1024 (drop (b * 1024) places)) ≡ 1024
+settle_length {places} {tops} {stale} {b} {top} settle = length-take-le 1024 (drop (b * 1024) places)
     (omega (
       arith,
-      length-drop (settle.block * 1024) settle.places,
+      length-drop (b * 1024) places,
       settle.maxima.places_are,
-      settle.maxima.stale_in settle.block settle.is,
+      settle.maxima.stale_in b settle.is,
     ))
 
-settle_here : (settle : Settle)
-    → get_or (set settle.tops settle.block settle.top) settle.block 0 ≡ settle.top
-settle_here settle = get_or-set_same settle.tops settle.block settle.top 0
-    (omega (arith, settle.maxima.tops_are, settle.maxima.stale_in settle.block settle.is))
+settle_here : {places tops : List ℕ} {stale : Option ℕ} {b top : ℕ} (settle : Settle places tops stale b top)
+    → get_or (set tops b top) b 0 ≡ top
+settle_here {places} {tops} {stale} {b} {top} settle = get_or-set_same tops b top 0
+    (omega (arith, settle.maxima.tops_are, settle.maxima.stale_in b settle.is))
 
 at_block : (places : List ℕ) (b r : ℕ) → r < 1024
     → get_or (take 1024 (drop (b * 1024) places)) r 0 ≡ get_or places (b * 1024 + r) 0
 at_block places b r low = get_or-take 1024 (drop (b * 1024) places) r 0 low ∙ get_or-drop (b * 1024) places r 0
 
-settle_bounded : (settle : Settle) (i : ℕ)
-    → i < ring_slots → get_or settle.places i 0 ≤ get_or (set settle.tops settle.block settle.top) (i / 1024) 0
-settle_bounded settle i less = elim (cases_eq (i / 1024) b) [
+settle_bounded : {places tops : List ℕ} {stale : Option ℕ} {b top : ℕ} (settle : Settle places tops stale b top) (i : ℕ)
+    → i < ring_slots → get_or places i 0 ≤ get_or (set tops b top) (i / 1024) 0
+settle_bounded {places} {tops} {stale} {b} {top} settle i less = elim (cases_eq (i / 1024) b) [
   | inl same ↦ (
       let r = i - b * 1024 in
       let parts : i / 1024 * 1024 + i % 1024 ≡ i = div-add-mod' i 1024 in
@@ -208,12 +198,10 @@ settle_bounded settle i less = elim (cases_eq (i / 1024) b) [
       omega (arith, old, new)
       )
 ]
-  where
-    open settle use {places, tops, block as b, top}
 
-settle_reached : (settle : Settle) (k : ℕ)
-    → k < 1024 → IsReached settle.places k (get_or (set settle.tops settle.block settle.top) k 0)
-settle_reached settle k less = elim (cases_eq k b) [
+settle_reached : {places tops : List ℕ} {stale : Option ℕ} {b top : ℕ} (settle : Settle places tops stale b top) (k : ℕ)
+    → k < 1024 → IsReached places k (get_or (set tops b top) k 0)
+settle_reached {places} {tops} {stale} {b} {top} settle k less = elim (cases_eq k b) [
   | inl same ↦ (
       let low : greatest.index < 1024 = omega (arith, greatest.inside, settle_length settle) in
       let new : get_or (set tops b top) k 0 ≡ top =
@@ -238,13 +226,13 @@ settle_reached settle k less = elim (cases_eq k b) [
       )
 ]
   where
-    open settle use {places, tops, stale, block as b, top, is, greatest}
+    open settle use {is, greatest}
 
 -- the stale block is read again
-pub topped-settle : (settle : Settle) → AreBlockMaxima settle.places (set settle.tops settle.block settle.top) None
-topped-settle settle = record {
+pub topped-settle : {places tops : List ℕ} {stale : Option ℕ} {b top : ℕ} (settle : Settle places tops stale b top) → AreBlockMaxima places (set tops b top) None
+topped-settle {places} {tops} {stale} {b} {top} settle = record {
   places_are = settle.maxima.places_are;
-  tops_are = length-set settle.tops settle.block settle.top ∙ settle.maxima.tops_are;
+  tops_are = length-set tops b top ∙ settle.maxima.tops_are;
   bounded = settle_bounded settle;
   reached = λ k less exact. settle_reached settle k less;
   stale_in = λ k e. absurd (none-some k e);

@@ -9,11 +9,9 @@ ghost use Rattle.plan_cert.specs.PlanSlots.{plan_slots, total_slots, total_bytes
 ghost use Rattle.slot_calendar.specs.declared.calendar.Overflow.{Overflow};
 ghost use Rattle.slot_calendar.specs.Profiles.{capacity_at};
 ghost use Rattle.slot_calendar.specs.Plays.{Play, sent_before, asked_at, released_at};
-ghost use Rattle.slot_calendar.specs.Plays.{truncated_play};
-ghost use Rattle.slot_calendar.specs.Plays.{share_at, whole_play, booked_by};
+ghost use Rattle.slot_calendar.specs.Plays.{truncated_play, share_at, whole_play, booked_by};
 ghost use Rattle.slot_calendar.specs.Calendars.{CalendarState, HasRoom, IsCalendar};
-ghost use Rattle.slot_calendar.specs.Calendars.{IsFirstOverflow};
-ghost use Rattle.slot_calendar.specs.Calendars.{Represents, booked_at};
+ghost use Rattle.slot_calendar.specs.Calendars.{IsFirstOverflow, Represents, booked_at};
 
 /// What a plan that begins at `start` has sent before a slot and sends in it, in the terms of the
 /// plan: nothing before its start, its running sum through the slot before, all its bytes from its

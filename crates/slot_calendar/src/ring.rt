@@ -41,11 +41,9 @@ pub(crate) struct Ring {
 }
 
 impl Model for Ring {
-    ghost use Rattle.slot_calendar.specs.Rings.{Slots};
+    ghost use Rattle.slot_calendar.specs.Rings.{Slots, slots_of_ring, IsRing};
 
     ghost Value = { Slots };
-
-    ghost use Rattle.slot_calendar.specs.Rings.{slots_of_ring, IsRing};
 
     ghost view = { slots_of_ring };
 

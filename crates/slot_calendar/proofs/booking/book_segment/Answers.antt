@@ -20,15 +20,8 @@ loop-passed-preserved c =
     let sent = c.sent_through-sent.ensures.sent c.args.from in
     let asked : asked_at segments c.args.from place ≡ by =
     omega (arith, asked-here segments c.args.from i.passed, i.invariant.before_is, sent) in
-    let step : OneSlotMore = record {
-      place = place;
-      old = c.args.ring.now;
-      mid = i.ring;
-      new = c.raise.new.self;
-      first_is = i.invariant.first_is;
-      others = c.raise.ensures.others;
-      rest = i.invariant.rest;
-    } in
+    let step : OneSlotMore place c.args.ring.now i.ring c.raise.new.self =
+    record { first_is = i.invariant.first_is; others = c.raise.ensures.others; rest = i.invariant.rest } in
     let at : c.args.from + (i.passed + 1) ≡ place + 1 = omega arith in
     record {
       before_is = sym (c.sent_through-sent.ensures.sent c.args.from);

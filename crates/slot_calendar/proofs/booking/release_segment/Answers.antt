@@ -33,15 +33,8 @@ loop-passed-preserved c =
     let sent = c.sent_through.ensures.sent c.args.from in let over = c.saturating_sub-over.ensures in
     let cut : released_at segments c.args.from c.args.keep place ≡ by =
     omega (arith, cut-here segments c.args.from c.args.keep i.passed, i.invariant.before_is, over, sent) in
-    let step : OneSlotMore = record {
-      place = place;
-      old = c.args.ring.now;
-      mid = i.ring;
-      new = c.release_slot.new.ring;
-      first_is = i.invariant.first_is;
-      others = c.release_slot.ensures.others;
-      rest = i.invariant.rest;
-    } in
+    let step : OneSlotMore place c.args.ring.now i.ring c.release_slot.new.ring =
+    record { first_is = i.invariant.first_is; others = c.release_slot.ensures.others; rest = i.invariant.rest } in
     let at : c.args.from + (i.passed + 1) ≡ place + 1 = omega arith in
     record {
       before_is = c.saturating_sub-over.ensures

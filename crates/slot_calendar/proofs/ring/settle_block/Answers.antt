@@ -8,13 +8,4 @@ returns-in-Some c =
     let b = c.in-Some.block in
     let width : b * 1024 + 1024 - b * 1024 ≡ 1024 = omega arith in
     let P : ℕ → Type 0 = λ n. IsGreatest (take n (drop (b * 1024) c.args.places.now)) c.greatest_of.result in
-    topped-settle (record {
-      places = _;
-      tops = _;
-      stale = _;
-      block = b;
-      top = _;
-      maxima = c.requires;
-      is = c.in-Some.is;
-      greatest = subst P width c.greatest_of.ensures;
-    })
+    topped-settle (record { maxima = c.requires; is = c.in-Some.is; greatest = subst P width c.greatest_of.ensures })

@@ -27,16 +27,8 @@ invariant_of-self c =
     let turn : IsInTurn d.first c.args.slot =
     record { from = omega (arith, first, c.requires.from_now); inside = omega (arith, first, c.requires.within) } in
     record {
-      maxima = subst P (sym top) (topped-raise (record {
-        places = _;
-        tops = _;
-        stale = _;
-        place = p;
-        value = v;
-        maxima = c.self.invariant.maxima;
-        inside = inside;
-        rises = omega (arith, value);
-      }));
+      maxima = subst P (sym top)
+          (topped-raise (record { maxima = c.self.invariant.maxima; inside = inside; rises = omega (arith, value) }));
       empty = λ u from late. (
           let last : c.max-self-inside.result ≡ max d.last c.args.slot = c.max-self-inside.ensures in
           set-there v places turn from (λ e. omega (arith, e, late, last))
