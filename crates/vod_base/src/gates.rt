@@ -4,10 +4,8 @@ ghost use Rattle.std.specs.Prelude.{◌≡◌, ◌<◌, ◌≤◌, ℕ, Option, 
 ghost use Rattle.std.specs.Prelude.{IfOk, OnOk, OnErr};
 ghost use Rattle.vod_base.specs.IoState.{HasRisen};
 ghost use Rattle.vod_base.specs.Gates.{Content, NoMore, Failed, MaySplit, IsPartOut, HasConnOut};
-ghost use Rattle.vod_base.specs.Gates.{after_open};
-ghost use Rattle.vod_base.specs.Gates.{split_off, new_part, after_take, after_empty_take};
-ghost use Rattle.vod_base.specs.Gates.{after_return};
-ghost use Rattle.vod_base.specs.Gates.{told_rejoined};
+ghost use Rattle.vod_base.specs.Gates.{after_open, split_off, new_part, after_take};
+ghost use Rattle.vod_base.specs.Gates.{after_empty_take, after_return, told_rejoined};
 
 use crate::errors::GateFault;
 use crate::links::Link;
