@@ -191,6 +191,19 @@ sums_next t0 t3 t8 t q s = record {
   starts = cond t8 true (cond ((t0 || (t3 || t8)) && q) false s.starts);
 }
 
+-- no call, and the calls at a code that ends a unit
+no-calls : {s : Sums} {k : Count} → Agrees s k → Counted k [] s
+no-calls {k} agrees = record { count = k; count_is = refl; agrees = agrees }
+
+at-unit : {s after : Sums} {k : Count} (here : CodeEnds) → Agrees s k → 0 < s.slices → IsNext here.ended s
+    → Agrees after (after_unit k s.starts)
+    → Counted k (slice_call here.slice here.place ∷ unit_call here.ended ∷ []) after
+at-unit {s} {k} here agrees some next later = record {
+  count = after_unit k s.starts;
+  count_is = unit-counted here.slice here.place agrees some next;
+  agrees = later;
+}
+
 raw-count : {t0 t3 t8 t q : Bool} {s : Sums} {k : Count} (here : CodeEnds) → Agrees s k → NextCode t0 t3 t8 t q s
     → IsNext here.ended s
     → Counted k (raw_calls t (t0 || (t3 || t8)) q (not q) here) (sums_next t0 t3 t8 t q s)
@@ -209,45 +222,24 @@ raw-count {t0 = false} {t3 = false} {t8 = false} {t = true} {q = false} {k} here
   agrees = first-agrees agrees (code.none refl) (code.fits.with_picture refl refl);
 }
 raw-count {t0 = true} {t8 = true} {t = false} here agrees code next = absurd (true≢false (code.other refl))
-raw-count {t0 = true} {t8 = false} {t = false} {q = true} {s} {k} here agrees code next = record {
-  count = after_unit k s.starts;
-  count_is = unit-counted here.slice here.place agrees (code.some refl) next;
-  agrees = picture-agrees (unit-agrees agrees (code.some refl)) refl refl;
-}
-raw-count {t0 = false} {t3 = true} {t8 = true} {t = false} {q = true} {s} {k} here agrees code next = record {
-  count = after_unit k s.starts;
-  count_is = unit-counted here.slice here.place agrees (code.some refl) next;
-  agrees = group-agrees (unit-agrees agrees (code.some refl)) refl refl;
-}
-raw-count {t0 = false} {t3 = false} {t8 = true} {t = false} {q = true} {s} {k} here agrees code next = record {
-  count = after_unit k s.starts;
-  count_is = unit-counted here.slice here.place agrees (code.some refl) next;
-  agrees = group-agrees (unit-agrees agrees (code.some refl)) refl refl;
-}
-raw-count {t0 = false} {t3 = true} {t8 = false} {t = false} {q = true} {s} {k} here agrees code next = record {
-  count = after_unit k s.starts;
-  count_is = unit-counted here.slice here.place agrees (code.some refl) next;
-  agrees = unit-agrees agrees (code.some refl);
-}
-raw-count {t0 = true} {t8 = false} {t = false} {q = false} {k} here agrees code next = record {
-  count = k;
-  count_is = refl;
-  agrees = picture-agrees agrees (code.none refl) (code.fits.alone refl refl);
-}
-raw-count {t0 = false} {t3 = true} {t8 = true} {t = false} {q = false} {k} here agrees code next = record {
-  count = k;
-  count_is = refl;
-  agrees = group-agrees agrees (code.none refl) (code.fits.alone refl refl);
-}
-raw-count {t0 = false} {t3 = false} {t8 = true} {t = false} {q = false} {k} here agrees code next = record {
-  count = k;
-  count_is = refl;
-  agrees = group-agrees agrees (code.none refl) (code.fits.alone refl refl);
-}
-raw-count {t0 = false} {t3 = true} {t8 = false} {t = false} {q = false} {k} here agrees code next =
-    record { count = k; count_is = refl; agrees = none-agrees agrees (code.none refl) }
-raw-count {t0 = false} {t3 = false} {t8 = false} {t = false} {k} here agrees code next =
-    record { count = k; count_is = refl; agrees = agrees }
+raw-count {t0 = true} {t8 = false} {t = false} {q = true} here agrees code next =
+    at-unit here agrees (code.some refl) next (picture-agrees (unit-agrees agrees (code.some refl)) refl refl)
+raw-count {t0 = false} {t3 = true} {t8 = true} {t = false} {q = true} here agrees code next =
+    at-unit here agrees (code.some refl) next (group-agrees (unit-agrees agrees (code.some refl)) refl refl)
+raw-count {t0 = false} {t3 = false} {t8 = true} {t = false} {q = true} here agrees code next =
+    at-unit here agrees (code.some refl) next (group-agrees (unit-agrees agrees (code.some refl)) refl refl)
+raw-count {t0 = false} {t3 = true} {t8 = false} {t = false} {q = true} here agrees code next =
+    at-unit here agrees (code.some refl) next (unit-agrees agrees (code.some refl))
+raw-count {t0 = true} {t8 = false} {t = false} {q = false} here agrees code next =
+    no-calls (picture-agrees agrees (code.none refl) (code.fits.alone refl refl))
+raw-count {t0 = false} {t3 = true} {t8 = true} {t = false} {q = false} here agrees code next =
+    no-calls (group-agrees agrees (code.none refl) (code.fits.alone refl refl))
+raw-count {t0 = false} {t3 = false} {t8 = true} {t = false} {q = false} here agrees code next =
+    no-calls (group-agrees agrees (code.none refl) (code.fits.alone refl refl))
+raw-count {t0 = false} {t3 = true} {t8 = false} {t = false} {q = false} here agrees code next =
+    no-calls (none-agrees agrees (code.none refl))
+raw-count {t0 = false} {t3 = false} {t8 = false} {t = false} here agrees code next =
+    no-calls agrees
 
 -- ---- all codes
 

@@ -24,25 +24,20 @@ latest_prefix r =
 
 -- the same once a byte 1, or a byte 0, or any byte is read
 abbrev pub after_one : Prefix → Prefix
-after_one Nothing = Nothing
-after_one Zero = Nothing
 after_one Zeros = Whole
-after_one Whole = Nothing
+after_one _ = Nothing
 
 abbrev pub after_zero : Prefix → Prefix
-after_zero Nothing = Zero
 after_zero Zero = Zeros
 after_zero Zeros = Zeros
-after_zero Whole = Zero
+after_zero _ = Zero
 
 abbrev pub next_prefix : Prefix → ℕ → Prefix
 next_prefix p x = if x == 1 then after_one p else (if x == 0 then after_zero p else Nothing)
 
 abbrev pub is_whole : Prefix → Bool
 is_whole Whole = true
-is_whole Nothing = false
-is_whole Zero = false
-is_whole Zeros = false
+is_whole _ = false
 
 -- a byte more for the header bytes of a code
 abbrev pub note : Code → ℕ → Code

@@ -3,8 +3,7 @@
 ghost use Rattle.std.specs.Prelude.{◌≡◌, ◌≤◌, true};
 ghost use Rattle.mpeg_scan.specs.FilmFaults.{header_fault, picture_fault, rate_fault, differs};
 ghost use Rattle.mpeg_scan.specs.FilmFaults.{code_fault, value_fault, second_fault};
-ghost use Rattle.mpeg_scan.specs.FilmFaults.{first_slice_fault};
-ghost use Rattle.mpeg_scan.specs.FilmFaults.{count_fault, last_fault};
+ghost use Rattle.mpeg_scan.specs.FilmFaults.{first_slice_fault, count_fault, last_fault};
 ghost use Rattle.mpeg_scan.specs.ScanBounds.{HasRoom};
 ghost use Rattle.mpeg_scan.specs.CodeFacts.{is_slice};
 

@@ -12,8 +12,7 @@ ghost use Rattle.mpeg_scan.specs.Layout.{AreInFilm, BeginsSequence, IsLaid, OfUn
 ghost use Rattle.mpeg_scan.specs.CodePlaces.{HasCode, IsCodeAt};
 ghost use Rattle.mpeg_scan.specs.PictureRates.{AreStandardTimes, picture_time};
 ghost use Rattle.mpeg_scan.specs.StandardUnits.{AreFalling, ArePresented, AreUnitsOf, IsAmong};
-ghost use Rattle.mpeg_scan.specs.StandardUnits.{IsSliceValue, IsUnitOf};
-ghost use Rattle.mpeg_scan.specs.StandardUnits.{StandsThere, slice_places};
+ghost use Rattle.mpeg_scan.specs.StandardUnits.{IsSliceValue, IsUnitOf, StandsThere, slice_places};
 ghost use Rattle.mpeg_scan.specs.StandardRefusals.{IsRefusedFor};
 ghost use Rattle.mpeg_scan.specs.PartTiling.{Tiles};
 ghost use Rattle.mpeg_scan.specs.CodeFacts.{picture_count};

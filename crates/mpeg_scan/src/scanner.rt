@@ -21,17 +21,14 @@ pub struct Scanner {
 }
 
 impl Scanner {
-    ghost use Rattle.std.specs.Prelude.{◌+◌, ◌≤◌, ◌++◌, ℕ, List, [], Some, Err, IfOk, OnOk};
-    ghost use Rattle.std.specs.Prelude.{length};
+    ghost use Rattle.std.specs.Prelude.{◌+◌, ◌≤◌, ◌++◌, ℕ, List, [], Some, Err, IfOk, OnOk, length};
     ghost use Rattle.mpeg_scan.specs.Calls.{Call, all_calls, calls_of};
     ghost use Rattle.mpeg_scan.specs.StartCodes.{codes_of, read_after};
     ghost use Rattle.mpeg_scan.specs.UnitNumbering.{AreNumbered};
     ghost use Rattle.mpeg_scan.specs.FilmFaults.{first_fault, refusal_of};
     ghost use Rattle.mpeg_scan.specs.Grammar.{IsGrammatical};
     ghost use Rattle.mpeg_scan.specs.ScannerState.{HasScannedBytes, IsSliceReady, IsRefusedInChunk};
-    ghost use Rattle.mpeg_scan.specs.ScannerState.{bytes_fed};
-    ghost use Rattle.mpeg_scan.specs.ScannerState.{open_slices};
-    ghost use Rattle.mpeg_scan.specs.ScannerState.{refused_by};
+    ghost use Rattle.mpeg_scan.specs.ScannerState.{bytes_fed, open_slices, refused_by};
     ghost use Rattle.mpeg_scan.specs.PartTiling.{Tiles};
     ghost use Rattle.mpeg_scan.specs.CodeFacts.{rate_of};
 

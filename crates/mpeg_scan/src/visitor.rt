@@ -1,7 +1,6 @@
 //! Reports a film's heads, slices and units as they end.
 
-ghost use Rattle.std.specs.Prelude.{◌≡◌, ◌+◌, ◌<◌, ◌≤◌, ◌++◌, ◌∷◌, ℕ, [], List, IsSome};
-ghost use Rattle.std.specs.Prelude.{OnOk, true};
+ghost use Rattle.std.specs.Prelude.{◌≡◌, ◌+◌, ◌<◌, ◌≤◌, ◌++◌, ◌∷◌, ℕ, [], List, IsSome, OnOk, true};
 ghost use Rattle.mpeg_scan.specs.ScanBounds.{AwaitsSlice, AwaitsSliceAfter, HasRoom};
 ghost use Rattle.mpeg_scan.specs.CodeFacts.{is_slice};
 ghost use Rattle.mpeg_scan.specs.Calls.{Call, calls_at, head_call, slice_call, unit_at, unit_call};
