@@ -46,14 +46,12 @@ full_packets unit begin start (suc count) =
     ∷ full_packets unit false (start + MAX_PAYLOAD_BYTES) count
 
 abbrev pub begins_slice : PacketContents → Bool
-begins_slice HeadersAlone = false
 begins_slice Slices = true
-begins_slice LastFragment = false
+begins_slice _ = false
 
 abbrev pub ends_slice : PacketContents → Bool
 ends_slice HeadersAlone = false
-ends_slice Slices = true
-ends_slice LastFragment = true
+ends_slice _ = true
 
 -- the packet of a portion that ends before a slice or with the unit
 abbrev pub filling_packet : PictureUnit → OpenPacket → Packet

@@ -2,8 +2,7 @@
 
 ghost use Rattle.std.specs.Prelude.{◌≡◌, ◌+◌, ◌*◌, ◌^◌, ◌≤◌, []};
 ghost use Rattle.rtp_pack.specs.Sizes.{HasSlice, IsSize, measure_from_headers, bytes_of, frames_of};
-ghost use Rattle.rtp_pack.specs.Sizes.{measure_of};
-ghost use Rattle.rtp_pack.specs.Sizes.{with_slice};
+ghost use Rattle.rtp_pack.specs.Sizes.{measure_of, with_slice};
 
 use crate::open_packet::{
     MAX_PAYLOAD_BYTES, OpenPacket, PacketContents, full_before, goes_in, holds_after,
