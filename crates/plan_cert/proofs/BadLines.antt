@@ -20,7 +20,7 @@ use Rattle.plan_cert.specs.CertGrammar.{MayStand, begun_text, line_at, lines_of}
 use Rattle.plan_cert.specs.CertGrammar.MayStand.{Bytes, SegmentLine, Slots, Title}
 use Rattle.plan_cert.proofs.CertUniqueness.{Contents, IsSame, end_is_no_segment, lines_are, lines-certificate}
 use Rattle.plan_cert.proofs.CertUniqueness.{no_break, nothing_after, number_clean, one_text}
-use Rattle.plan_cert.proofs.CertUniqueness.{contents, words_clean}
+use Rattle.plan_cert.proofs.CertUniqueness.{begun_of, contents, words_clean}
 use Rattle.plan_cert.proofs.GrammarLemmas.{breaks_here, breaks_missing, goes_after_end, head_joined, next_is, not_bytes}
 use Rattle.plan_cert.proofs.GrammarLemmas.{not_one_more, not_segment, not_slots, not_title, read_more, read_none}
 
@@ -119,17 +119,6 @@ bad-bytes slots line rest small is other = (
   inl (breaks_here (next_is (slots-line slots (line ++ 10 ∷ rest) small) (cut-off line rest is))
       (not_bytes line (λ n number. other n number.small number.words), λ ends. omega (arith, ends.after_head))),
 )
-
-abbrev pub begun_of : (slots bytes : ℕ) (segments : List Segment) → slots ≤ MAX_NUMBER → bytes ≤ MAX_NUMBER
-    → AreSmall segments → Contents
-begun_of slots bytes segments few_slots few_bytes small = record {
-  slots = slots;
-  bytes = bytes;
-  segments = segments;
-  few_slots = few_slots;
-  few_bytes = few_bytes;
-  small = small;
-}
 
 head-lines : (slots bytes : ℕ) (rest : List ℕ) → slots ≤ MAX_NUMBER → bytes ≤ MAX_NUMBER
     → HasReadLines (cert_head slots bytes ++ rest) 3 rest

@@ -12,7 +12,7 @@ use Rattle.plan_cert.specs.CertGrammar.{FitCertLimits}
 use Rattle.plan_cert.specs.Feasibility.{excess}
 use Rattle.plan_cert.proofs.SlotSums.{sum-take-slots_of}
 use Rattle.plan_cert.proofs.GrammarLemmas.{head_text}
-use Rattle.plan_cert.proofs.CertUniqueness.{Contents, one_text}
+use Rattle.plan_cert.proofs.CertUniqueness.{begun_of, one_text}
 
 abbrev with_line_end : List ℕ → List ℕ
 with_line_end line = line ++ codes "\n"
@@ -56,14 +56,7 @@ pub one_list : (segments others : List Segment) → FitCertLimits segments → F
     → cert_text segments ≡ cert_text others → segments ≡ others
 one_list segments others one other e =
     let contents = λ (list : List Segment) (is : FitCertLimits list).
-    let told : Contents = record {
-      slots = total_slots list;
-      bytes = total_bytes list;
-      segments = list;
-      few_slots = is.few_slots;
-      few_bytes = is.few_bytes;
-      small = is.small;
-    } in told in
+    begun_of (total_slots list) (total_bytes list) list is.few_slots is.few_bytes is.small in
     (one_text (contents segments one) (contents others other) e).segments_are
 
 pub excess_parts : (x : List ℕ) (p q : ℕ) → excess x p q + sum_by (λ b. min (q * b) p) x ≡ q * sum x

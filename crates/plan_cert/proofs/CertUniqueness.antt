@@ -44,6 +44,17 @@ pub record Contents : Type 0 where
   pub few_bytes : bytes ≤ MAX_NUMBER
   pub small : AreSmall segments
 
+abbrev pub begun_of : (slots bytes : ℕ) (segments : List Segment) → slots ≤ MAX_NUMBER → bytes ≤ MAX_NUMBER
+    → AreSmall segments → Contents
+begun_of slots bytes segments few_slots few_bytes small = record {
+  slots = slots;
+  bytes = bytes;
+  segments = segments;
+  few_slots = few_slots;
+  few_bytes = few_bytes;
+  small = small;
+}
+
 -- ---- the lines of a certificate
 abbrev body_of : List Segment → List (List ℕ)
 body_of segments = map segment_words segments ++ codes "end" ∷ []
@@ -174,25 +185,13 @@ one_text one other e =
 
 abbrev contents_of : {text : List ℕ} {slots bytes : ℕ} {segments : List Segment}
     → IsCertificate text slots bytes segments → Contents
-contents_of {segments} certificate = record {
-  slots = total_slots segments;
-  bytes = total_bytes segments;
-  segments = segments;
-  few_slots = omega (arith, certificate.slots_are, certificate.small_slots);
-  few_bytes = omega (arith, certificate.bytes_are, certificate.small_bytes);
-  small = certificate.small;
-}
+contents_of {segments} certificate = begun_of (total_slots segments) (total_bytes segments) segments
+    (omega (arith, certificate.slots_are, certificate.small_slots))
+    (omega (arith, certificate.bytes_are, certificate.small_bytes)) certificate.small
 
 -- what a text with a wrong sum contains
 abbrev pub contents : {text : List ℕ} {i : ℕ} → HasWrongSum text i → Contents
-contents wrong = record {
-  slots = wrong.slots;
-  bytes = wrong.bytes;
-  segments = wrong.segments;
-  few_slots = wrong.small_slots;
-  few_bytes = wrong.small_bytes;
-  small = wrong.small;
-}
+contents wrong = begun_of wrong.slots wrong.bytes wrong.segments wrong.small_slots wrong.small_bytes wrong.small
 
 -- a text is the certificate of one list of segments
 pub one_certificate : {text : List ℕ} {slots bytes slots' bytes' : ℕ} {xs ys : List Segment}

@@ -1,13 +1,12 @@
 //! Reading a certificate, line by line.
 
 ghost use Rattle.std.specs.Prelude.{ℕ, ◌≡◌, ◌≢◌, ◌+◌, ◌^◌, ◌<◌, ◌≤◌, ◌++◌, ◌↔◌, List, IsTrue};
-ghost use Rattle.std.specs.Prelude.{length, slice_index, codes, decimal, flat_map, IfOk};
-ghost use Rattle.std.specs.Prelude.{IfErr, MatchOption, MatchResult};
+ghost use Rattle.std.specs.Prelude.{length, slice_index, decimal, IfOk, IfErr};
+ghost use Rattle.std.specs.Prelude.{MatchOption, MatchResult};
 ghost use Rattle.plan_cert.specs.declared.Segment.{Segment};
 ghost use Rattle.plan_cert.specs.CertGrammar.{IsNumberLine, IsSegmentLine, AreNumbers};
-ghost use Rattle.plan_cert.specs.CertGrammar.{IsCertificate, IsCertRefusal, IsBadLine};
-ghost use Rattle.plan_cert.specs.CertGrammar.{HasReadLines, IsHead};
-ghost use Rattle.plan_cert.specs.CertGrammar.{IsBody};
+ghost use Rattle.plan_cert.specs.CertGrammar.{IsCertificate, IsCertRefusal};
+ghost use Rattle.plan_cert.specs.CertGrammar.{HasReadLines, IsHead, IsBody};
 
 use crate::Segment;
 use crate::sums::{has_bytes, has_slots};

@@ -1,18 +1,15 @@
 //! Laws of slots, sums and texts.
 
 ghost use Rattle.std.specs.Prelude.{◌≡◌, ◌+◌, ◌-◌, ◌*◌, ◌/◌, ◌<◌, ◌≤◌, ◌⊎◌, ◌↔◌, ◌∷◌, ◌++◌, [], ℕ};
-ghost use Rattle.std.specs.Prelude.{◌≢◌};
-ghost use Rattle.std.specs.Prelude.{All, List, codes, decimal, flat_map, length, map, min, take};
-ghost use Rattle.std.specs.Prelude.{sum, sum_by, slice_index, slice_index_or};
+ghost use Rattle.std.specs.Prelude.{◌≢◌, All, List, codes, decimal, flat_map, length, map, min};
+ghost use Rattle.std.specs.Prelude.{take, sum, sum_by, slice_index, slice_index_or};
 ghost use Rattle.plan_cert.specs.declared.Segment.{Segment};
 ghost use Rattle.plan_cert.specs.PlanSlots.{slot_of, slots_of, plan_slots, total_slots};
-ghost use Rattle.plan_cert.specs.PlanSlots.{total_bytes};
-ghost use Rattle.plan_cert.specs.PlanSlots.{sum_through};
+ghost use Rattle.plan_cert.specs.PlanSlots.{total_bytes, sum_through};
 ghost use Rattle.plan_cert.specs.Plan.{IsPlan};
-ghost use Rattle.plan_cert.specs.CertFormat.{cert_text};
+ghost use Rattle.plan_cert.specs.CertFormat.{cert_text, segment_words};
 ghost use Rattle.plan_cert.specs.CertGrammar.{FitCertLimits, IsBadLine, IsCertificate, IsOneLine};
 ghost use Rattle.plan_cert.specs.CertGrammar.{OfBegunTexts, begun_text};
-ghost use Rattle.plan_cert.specs.CertFormat.{segment_words};
 ghost use Rattle.plan_cert.specs.Feasibility.{excess};
 
 use crate::cert_reader::{MAX_NUMBER, MAX_SEGMENTS};

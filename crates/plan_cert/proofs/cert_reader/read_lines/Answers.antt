@@ -4,8 +4,8 @@ use Rattle.std.proofs.lemmas.Bool.{both_ways}
 use Rattle.plan_cert.specs.PlanSlots.{total_slots, total_bytes}
 use Rattle.plan_cert.specs.CertFormat.{cert_head, segment_line}
 use Rattle.plan_cert.specs.CertGrammar.{IsBadLine, begun_text}
-use Rattle.plan_cert.proofs.BadLines.{begun_of, wrong-bytes, wrong-slots}
-use Rattle.plan_cert.proofs.CertUniqueness.{Contents}
+use Rattle.plan_cert.proofs.BadLines.{wrong-bytes, wrong-slots}
+use Rattle.plan_cert.proofs.CertUniqueness.{Contents, begun_of}
 use Rattle.plan_cert.proofs.cert_reader.read_lines.Goals as goal
 
 -- the text of a head and a body that are read

@@ -1,5 +1,6 @@
-use Rattle.plan_cert.proofs.BadLines.{bad-bytes, bad-segment, bad-slots, bad-title, begun_of, behind-end, cut-short}
+use Rattle.plan_cert.proofs.BadLines.{bad-bytes, bad-segment, bad-slots, bad-title, behind-end, cut-short}
 use Rattle.plan_cert.proofs.BadLines.{one-bad_line, wrong-bytes, wrong-slots}
+use Rattle.plan_cert.proofs.CertUniqueness.{begun_of}
 use Rattle.plan_cert.proofs.laws.law_bad_line_is_the_first.Goals as goal
 
 pub returns : goal.returns
