@@ -5,7 +5,7 @@ pub mod SplitLemmas
 mod PartLinkLemmas
 mod EventDelivery
 mod LineLemmas
-mod LinkLogLemmas
+pub mod LinkLogLemmas
 pub mod PrefixSums
 pub mod HistoryLemmas
 pub mod TextLemmas
