@@ -136,7 +136,7 @@ ahead seen = record {
 }
 
 abbrev mirror : Seen → Seen
-mirror seen = record { from = seen.from; first = seen.third; second = seen.second; third = seen.first }
+mirror seen = record seen { first = seen.third; third = seen.first }
 
 pub within_within : (side : Side) (seen : Seen) → seen.from.place < seen.second.place
     → IsWithin side seen.from seen.first seen.second → IsWithin side seen.from seen.second seen.third
@@ -181,15 +181,8 @@ turn_of seen = record {
 }
 
 abbrev corner_mirror : SeenCorner → SeenCorner
-corner_mirror seen = record {
-  from = seen.from;
-  corner = seen.corner;
-  one = seen.other;
-  other = seen.one;
-  ahead = seen.ahead;
-  one_beyond = seen.other_beyond;
-  other_beyond = seen.one_beyond;
-}
+corner_mirror seen =
+    record seen { one = seen.other; other = seen.one; one_beyond = seen.other_beyond; other_beyond = seen.one_beyond }
 
 one_offset : (seen : SeenCorner)
     → seen.one.place - seen.from.place ≡ (seen.corner.place - seen.from.place) + (seen.one.place - seen.corner.place)

@@ -1,7 +1,6 @@
 //! The chain along one curve, and how the next place joins it.
 
-ghost use Rattle.std.specs.Prelude.{◌≡◌, ◌+◌, ◌<◌, ◌≤◌, [], length, MatchBool, MatchOption, IfOk};
-ghost use Rattle.std.specs.Prelude.{OnOk};
+ghost use Rattle.std.specs.Prelude.{◌≡◌, ◌+◌, ◌<◌, length, MatchBool, IfOk, OnOk};
 ghost use Rattle.wire_curve.specs.SoundCurves.{AreSound};
 ghost use Rattle.taut_plan.specs.Chain.{on_curve, IsChain, IsLastDropped, CanAppend, EdgesAscend};
 ghost use Rattle.taut_plan.specs.Chain.{EdgesFit};

@@ -1,7 +1,6 @@
 //! The planner: the funnel between the two curves.
 
-ghost use Rattle.std.specs.Prelude.{◌≡◌, ℕ, ◌+◌, ◌<◌, ◌≤◌, ◌∷◌, length, MatchBool, MatchOption};
-ghost use Rattle.std.specs.Prelude.{IfOk, OnOk};
+ghost use Rattle.std.specs.Prelude.{◌+◌, ◌<◌, ◌≤◌, length, MatchOption, IfOk, OnOk};
 ghost use Rattle.wire_curve.specs.SoundCurves.{AreSound};
 ghost use Rattle.cert_check.specs.CertFaults.{IsTaut};
 ghost use Rattle.cert_check.specs.Optimality.{IsBestPlan};

@@ -3,7 +3,7 @@
 //! A place is at most [`MAX_PLACE`] and a height at most [`MAX_BYTES`], so no product or sum here
 //! passes 2^62 and 64 bits serve. `slope_frac` compares any two slopes, which takes 128.
 
-ghost use Rattle.std.specs.Prelude.{◌≡◌, ◌+◌, ◌-◌, ◌*◌, ◌<◌, ◌≤◌, ◌↔◌, IsTrue, MatchBool, length};
+ghost use Rattle.std.specs.Prelude.{◌≡◌, ◌+◌, ◌-◌, ◌*◌, ◌<◌, ◌≤◌, MatchBool, length};
 ghost use Rattle.taut_plan.specs.Slopes.{IsWithin, IsInside, AllFit, Fits, other_side};
 ghost use Rattle.taut_plan.specs.Links.{IsEdge, IsPassed, IsKept};
 ghost use Rattle.taut_plan.specs.Chain.{on_curve};
