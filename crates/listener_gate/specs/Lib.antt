@@ -1,6 +1,5 @@
 pub mod Accepts
 pub mod Codes
-pub mod GateCalls
 pub mod Histories
 pub mod Listeners
 pub mod Openings

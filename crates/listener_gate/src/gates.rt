@@ -1,15 +1,14 @@
 //! A gate over a listener.
 
 ghost use Rattle.std.specs.Prelude.{◌≡◌, ◌<◌, ◌≤◌, ◌*◌, ◌+◌, ◌-◌, ◌^◌, ◌++◌, ◌∷◌, [], ◌⊎◌, min};
-ghost use Rattle.std.specs.Prelude.{None, Some, option_map};
-ghost use Rattle.std.specs.Prelude.{IsTrue, IfOk, IfErr, OnOk, OnErr, IfSome, IsSome, IsErr, true};
-ghost use Rattle.std.specs.Prelude.{false};
+ghost use Rattle.std.specs.Prelude.{None, Some, option_map, IsTrue, IfOk, OnOk, OnErr};
+ghost use Rattle.std.specs.Prelude.{IfSome, true, false};
 ghost use Rattle.vod_base.specs.IoState.{HasRisen, one_more};
 ghost use Rattle.vod_base.specs.Gates.{MaySplit, IsPartOut, HasConnOut, after_open, split_off};
 ghost use Rattle.vod_base.specs.Gates.{new_part, after_take, after_empty_take, after_return};
 ghost use Rattle.vod_base.specs.Gates.{NoMore, Failed, told_rejoined};
-ghost use Rattle.listener_gate.specs.Accepts.{first_wait, longer_wait, IsAcceptedAfter};
-ghost use Rattle.listener_gate.specs.Accepts.{IsGivenUp, FailedTry, failed_try, wait_after};
+ghost use Rattle.listener_gate.specs.Accepts.{first_wait, longer_wait, IsAcceptedAfter, IsGivenUp};
+ghost use Rattle.listener_gate.specs.Accepts.{FailedTry, failed_try, wait_after};
 ghost use Rattle.listener_gate.specs.Openings.{address_of, MayGive, HasGivenAll};
 ghost use Rattle.listener_gate.specs.Histories.{splits_after};
 
@@ -53,8 +52,6 @@ pub struct ListenerGate<L: Listener> {
 }
 
 impl<L: Listener> ListenerGate<L> {
-    ghost use Rattle.listener_gate.specs.GateCalls.{LeavesGate};
-
     /// Makes a gate that isn't open, over a listener that isn't bound.
     pub fn new(listener: L) -> ListenerGate<L>
         // leaves: a gate that has done nothing
@@ -84,95 +81,84 @@ impl<L: Listener> ListenerGate<L> {
     {
         &self.listener
     }
+}
 
-    /// Tries to accept a connection. It skips one that failed before it was accepted, and waits
-    /// once at a shortage.
-    fn try_accept(&mut self) -> Result<Option<L::Conn>, ListenerFault>
-        // leaves: the gate's own counts as they were
-        ensures same { LeavesGate self.old self.new }
-        ensures count { L.faults self.old.listener ≤ L.faults self.new.listener }
-        // answers: a connection that has done nothing, or None after one wait or one lost
-        // connection
-        ensures accepted { IfOk result (λ tried. IfSome tried (λ conn.
-            (self.new.wait ≡ first_wait)
-            × (IsTrue L.tells → L.did self.new.listener ≡ L.did self.old.listener
-            ++ ListenerDoing.Accepted ∷ []))) }
-        ensures fresh { IfOk result (λ tried. IfSome tried (λ conn. (L.Conn.faults conn ≡ 0)
-            × IfSome (L.Conn.told conn) (λ doings. doings ≡ []))) }
-        ensures failed { IfOk result (λ tried. tried ≡ None → (t : FailedTry)
-            × ((self.new.wait ≡ wait_after t self.old.wait)
-            × (IsTrue L.tells → L.did self.new.listener ≡ L.did self.old.listener
-            ++ failed_try self.old.wait t))) }
-        // faults: the listener's count rose
-        ensures lost { OnErr result (IsTrue L.tells →
-            (L.did self.new.listener ≡ L.did self.old.listener)
-            ⊎ (L.did self.new.listener ≡ L.did self.old.listener ++ ListenerDoing.ShortageError ∷
-            [])) }
-        ensures fault { OnErr result
-            (HasRisen (L.faults self.old.listener) (L.faults self.new.listener)) }
-    {
-        match self.listener.accept() {
-            Ok(conn) => {
-                // The shortage is over, so the next one begins with the shortest wait.
-                self.wait = FIRST_WAIT;
-                Ok(Some(conn))
-            }
-            // The error is of that connection, not of the listener: accept(2) says to try again.
-            Err(AcceptError::Transient) => Ok(None),
-            // A worker that gave up here would be lost until a restart, so it waits.
-            Err(AcceptError::Shortage) => self.wait_out(),
-            // The listening socket can't be used any more.
-            Err(AcceptError::Broken) => Err(ListenerFault),
+/// Tries to accept a connection. It skips one that failed before it was accepted, and waits once at
+/// a shortage.
+fn try_accept<L: Listener>(
+    listener: &mut L,
+    wait: &mut u64,
+) -> Result<Option<L::Conn>, ListenerFault>
+    ensures count { L.faults listener.old ≤ L.faults listener.new }
+    // answers: a connection that has done nothing, or None after one wait or one lost connection
+    ensures accepted { IfOk result (λ tried. IfSome tried (λ conn. (wait.new ≡ first_wait)
+        × (IsTrue L.tells → L.did listener.new ≡ L.did listener.old
+        ++ ListenerDoing.Accepted ∷ []))) }
+    ensures fresh { IfOk result (λ tried. IfSome tried (λ conn. (L.Conn.faults conn ≡ 0)
+        × IfSome (L.Conn.told conn) (λ doings. doings ≡ []))) }
+    ensures failed { IfOk result (λ tried. tried ≡ None → (t : FailedTry)
+        × ((wait.new ≡ wait_after t wait.old) × (IsTrue L.tells →
+        L.did listener.new ≡ L.did listener.old ++ failed_try wait.old t))) }
+    // faults: the listener's count rose
+    ensures lost { OnErr result (IsTrue L.tells → (L.did listener.new ≡ L.did listener.old)
+        ⊎ (L.did listener.new ≡ L.did listener.old ++ ListenerDoing.ShortageError ∷ [])) }
+    ensures fault { OnErr result (HasRisen (L.faults listener.old) (L.faults listener.new)) }
+{
+    match listener.accept() {
+        Ok(conn) => {
+            // The shortage is over, so the next one begins with the shortest wait.
+            *wait = FIRST_WAIT;
+            Ok(Some(conn))
+        }
+        // The error is of that connection, not of the listener: accept(2) says to try again.
+        Err(AcceptError::Transient) => Ok(None),
+        // A worker that gave up here would be lost until a restart, so it waits.
+        Err(AcceptError::Shortage) => wait_out(listener, wait),
+        // The listening socket can't be used any more.
+        Err(AcceptError::Broken) => Err(ListenerFault),
+    }
+}
+
+/// Waits for once where descriptors or memory are short, and makes the next wait longer.
+fn wait_out<L: Listener, C>(listener: &mut L, wait: &mut u64) -> Result<Option<C>, ListenerFault>
+    ensures none { IfOk result (λ none. none ≡ None) }
+    ensures wait { OnOk result (wait.new ≡ longer_wait wait.old) }
+    ensures count { L.faults listener.old ≤ L.faults listener.new }
+    ensures waited { OnOk result (IsTrue L.tells →
+        L.did listener.new ≡ L.did listener.old ++ ListenerDoing.Waited wait.old ∷ []) }
+    ensures lost { OnErr result (IsTrue L.tells → L.did listener.new ≡ L.did listener.old) }
+    ensures fault { OnErr result (HasRisen (L.faults listener.old) (L.faults listener.new)) }
+{
+    match listener.wait(*wait) {
+        Ok(()) => {
+            // Cut before it is doubled, so that the result is 1 s at most and can't overflow.
+            *wait = (*wait).min(LONGEST_WAIT / 2) * 2;
+            Ok(None)
+        }
+        Err(fault) => Err(fault),
+    }
+}
+
+/// Accepts a connection. It skips those that failed before they were accepted, and waits out
+/// shortages.
+fn accept<L: Listener>(listener: &mut L, wait: &mut u64) -> Result<L::Conn, ListenerFault>
+    ensures wait { OnOk result (wait.new ≡ first_wait) }
+    ensures accepted { OnOk result (IsTrue L.tells →
+        IsAcceptedAfter wait.old (L.did listener.old) (L.did listener.new)) }
+    ensures fresh { IfOk result (λ conn. (L.Conn.faults conn ≡ 0)
+        × IfSome (L.Conn.told conn) (λ doings. doings ≡ [])) }
+    ensures given_up { OnErr result (IsGivenUp wait.old (L.faults listener.old)
+        (L.faults listener.new) L.tells (L.did listener.old) (L.did listener.new)) }
+{
+    for _n in 0..u64::MAX {
+        match try_accept(listener, wait) {
+            Ok(Some(conn)) => return Ok(conn),
+            Ok(None) => {}
+            Err(fault) => return Err(fault),
         }
     }
-
-    /// Waits for once where descriptors or memory are short, and makes the next wait longer.
-    fn wait_out<C>(&mut self) -> Result<Option<C>, ListenerFault>
-        ensures same { LeavesGate self.old self.new }
-        ensures none { IfOk result (λ none. none ≡ None) }
-        ensures wait { OnOk result (self.new.wait ≡ longer_wait self.old.wait) }
-        ensures count { L.faults self.old.listener ≤ L.faults self.new.listener }
-        ensures waited { OnOk result (IsTrue L.tells →
-            L.did self.new.listener ≡ L.did self.old.listener ++ ListenerDoing.Waited self.old.wait
-            ∷ []) }
-        ensures lost { OnErr result (IsTrue L.tells →
-            L.did self.new.listener ≡ L.did self.old.listener) }
-        ensures fault { OnErr result
-            (HasRisen (L.faults self.old.listener) (L.faults self.new.listener)) }
-    {
-        match self.listener.wait(self.wait) {
-            Ok(()) => {
-                // Cut before it is doubled, so that the result is 1 s at most and can't overflow.
-                self.wait = self.wait.min(LONGEST_WAIT / 2) * 2;
-                Ok(None)
-            }
-            Err(fault) => Err(fault),
-        }
-    }
-
-    /// Accepts a connection. It skips those that failed before they were accepted, and waits out
-    /// shortages.
-    fn accept(&mut self) -> Result<L::Conn, ListenerFault>
-        ensures same { LeavesGate self.old self.new }
-        ensures wait { OnOk result (self.new.wait ≡ first_wait) }
-        ensures accepted { OnOk result (IsTrue L.tells →
-            IsAcceptedAfter self.old.wait (L.did self.old.listener) (L.did self.new.listener)) }
-        ensures fresh { IfOk result (λ conn. (L.Conn.faults conn ≡ 0)
-            × IfSome (L.Conn.told conn) (λ doings. doings ≡ [])) }
-        ensures given_up { OnErr result
-            (IsGivenUp self.old.wait (L.faults self.old.listener) (L.faults self.new.listener)
-            L.tells (L.did self.old.listener) (L.did self.new.listener)) }
-    {
-        for _n in 0..u64::MAX {
-            match self.try_accept() {
-                Ok(Some(conn)) => return Ok(conn),
-                Ok(None) => {}
-                Err(fault) => return Err(fault),
-            }
-        }
-        // Never reached: a call must be proved to end, so the loop counts.
-        Err(ListenerFault)
-    }
+    // Never reached: a call must be proved to end, so the loop counts.
+    Err(ListenerFault)
 }
 
 impl<L: Listener + fmt::Debug> fmt::Debug for ListenerGate<L> {
@@ -341,7 +327,7 @@ impl<L: Listener + Drop> Gate for ListenerGate<L> {
             self.own.note(&None, PartNote::NoMore);
             return Ok(None);
         }
-        match self.accept() {
+        match accept(&mut self.listener, &mut self.wait) {
             Ok(conn) => {
                 // Without a limit the count may stay at its end: only a limit is compared with it.
                 self.given = self.given.saturating_add(1);

@@ -1,6 +1,6 @@
 //! Laws of the waits between accepts, of the address, and of the system's error numbers.
 
-ghost use Rattle.std.specs.Prelude.{◌≡◌, ◌≢◌, ◌*◌, ◌^◌, ◌<◌, ◌++◌, [], ◌∷◌, ℕ, ℤ, List, Some};
+ghost use Rattle.std.specs.Prelude.{◌≡◌, ◌*◌, ◌^◌, ◌<◌, ◌++◌, [], ◌∷◌, ℕ, List, Some};
 ghost use Rattle.std.specs.Prelude.{None, length, min, slice_index, pos, true, false};
 ghost use Rattle.vod_base.specs.declared.gates.Opening.{Opening};
 ghost use Rattle.listener_gate.specs.Accepts.{first_wait, IsAcceptedAfter};

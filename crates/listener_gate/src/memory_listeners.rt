@@ -1,7 +1,6 @@
 //! A listener in memory.
 
-ghost use Rattle.std.specs.Prelude.{◌≡◌, ◌≤◌, ◌++◌, ◌∷◌, [], true, OnOk, OnErr, IfOk, IfErr};
-ghost use Rattle.std.specs.Prelude.{IfSome, IsTrue};
+ghost use Rattle.std.specs.Prelude.{◌≡◌, ◌≤◌, ◌++◌, ◌∷◌, [], true, OnOk, OnErr, IfOk, IfSome};
 ghost use Rattle.vod_base.specs.IoState.{HasRisen};
 ghost use Rattle.listener_gate.specs.Listeners.{failed_accept, IsBroken};
 

@@ -15,12 +15,10 @@ returns-then-self-clause-none g c none =
 
 pub returns-in-Ok-clause-gave : goal.returns-in-Ok-clause-gave
 returns-in-Ok-clause-gave g c =
-    rw (← c.accept.ensures.same.own, ← c.accept.ensures.same.history)
-    (part_told (view_of g.L.Listener g.L.Conn.Link) after_take (state_of c.accept.new.self)
-    (record { note = _; number = c.note-in-Ok.ensures.number; notes = c.note-in-Ok.ensures.notes; step = λ s p. refl }))
+    part_told (view_of g.L.Listener g.L.Conn.Link) after_take (state_of c.args.self.now)
+    (record { note = _; number = c.note-in-Ok.ensures.number; notes = c.note-in-Ok.ensures.notes; step = λ s p. refl })
 
 pub returns-in-Err-clause-lost : goal.returns-in-Err-clause-lost
 returns-in-Err-clause-lost g c =
-    rw (← c.accept.ensures.same.own, ← c.accept.ensures.same.history)
-    (part_told (view_of g.L.Listener g.L.Conn.Link) (after_empty_take Failed) (state_of c.accept.new.self)
-    (record { note = _; number = c.note-in-Err.ensures.number; notes = c.note-in-Err.ensures.notes; step = λ s p. refl }))
+    part_told (view_of g.L.Listener g.L.Conn.Link) (after_empty_take Failed) (state_of c.args.self.now)
+    (record { note = _; number = c.note-in-Err.ensures.number; notes = c.note-in-Err.ensures.notes; step = λ s p. refl })

@@ -2,7 +2,7 @@ use Rattle.std.proofs.Common.{ℕ, ◌+◌, ◌++◌, ◌∷◌, [], List, sym, 
 use Rattle.listener_gate.specs.declared.listeners.ListenerDoing.{ListenerDoing}
 use Rattle.listener_gate.specs.Accepts.{failed_tries, failed_try, wait_after}
 use Rattle.listener_gate.proofs.Tries.{failed_tries-append, wait_after_tries-append}
-use Rattle.listener_gate.proofs.gates.ListenerGate.accept.Goals as goal
+use Rattle.listener_gate.proofs.gates.accept.Goals as goal
 
 pub loop-n-preserved : goal.loop-n-preserved
 loop-n-preserved g c =
@@ -12,19 +12,10 @@ loop-n-preserved g c =
     let rose = now.count in
     let t = failed.0 in
     let tries = held.tried.tries in
-    let ms = c.args.self.now.wait in
-    let wait = c.loop-n.self.wait in
-    let before = g.L.Listener.did c.args.self.now.listener in
+    let ms = c.args.wait.now in
+    let wait = c.loop-n.wait in
+    let before = g.L.Listener.did c.args.listener.now in
     record {
-      same = record {
-        faults = now.same.faults ∙ held.same.faults;
-        is_open = now.same.is_open ∙ held.same.is_open;
-        given = now.same.given ∙ held.same.given;
-        most = now.same.most ∙ held.same.most;
-        splits = now.same.splits ∙ held.same.splits;
-        own = now.same.own ∙ held.same.own;
-        history = now.same.history ∙ held.same.history;
-      };
       count = omega (arith, held.count, rose);
       tried = record {
         tries = tries ++ t ∷ [];
