@@ -143,6 +143,16 @@ pub record StandsFirst (chosen : Option ℕ) (t : List ℕ) : Type 0 where
   pub is_item : IsItem chosen item
   pub is : item_bytes item ++ rest ≡ t
 
+-- the first of some items that are read
+abbrev pub first_of : {chosen : Option ℕ} (x : Item) (xs : List Item) (tail : List ℕ) {t : List ℕ} → IsItem chosen x
+    → t ≡ bytes_of (x ∷ xs) ++ tail → StandsFirst chosen t
+first_of x xs tail item is = record {
+  item = x;
+  rest = bytes_of xs ++ tail;
+  is_item = item;
+  is = sym (append_assoc (item_bytes x) (bytes_of xs) tail) ∙ sym is;
+}
+
 as_prefixed : {chosen : Option ℕ} {t : List ℕ} (a : StandsFirst chosen t)
     → t ≡ with_prefix (zeros_of a.item) (rest_of a.item ++ a.rest)
 as_prefixed a =
@@ -381,12 +391,7 @@ record AreRead (chosen : Option ℕ) (items : List Item) (bytes : List ℕ) : Ty
 -- the first of them stands first
 abbrev first_item : {chosen : Option ℕ} {x : Item} {xs : List Item} {bytes : List ℕ} → AreRead chosen (x ∷ xs) bytes
     → StandsFirst chosen bytes
-first_item {x} {xs} read = record {
-  item = x;
-  rest = bytes_of xs ++ read.tail;
-  is_item = read.are.0;
-  is = sym (append_assoc (item_bytes x) (bytes_of xs) read.tail) ∙ sym read.is;
-}
+first_item {x} {xs} read = first_of x xs read.tail read.are.0 read.is
 
 items_once : {chosen : Option ℕ} {items items' : List Item} {bytes : List ℕ} (one : AreRead chosen items bytes)
     (other : AreRead chosen items' bytes) → (items ≡ items') × (one.tail ≡ other.tail)

@@ -13,7 +13,7 @@ use Rattle.sys_demux.specs.declared.faults.SystemFault.TheVariants.{Truncated}
 use Rattle.sys_demux.specs.declared.parser_states.ParserState.{ParserState}
 use Rattle.sys_demux.specs.declared.parser_states.ParserState.TheVariants.{Zeros, Value, Mark, High, Low}
 use Rattle.sys_demux.specs.declared.parser_states.ParserState.TheVariants.{InHeader, Pass, Video, End, Failed}
-use Rattle.sys_demux.proofs.ReadingUniqueness.{StandsFirst, cut_stands, item_once, item_no_end, end_no_fault}
+use Rattle.sys_demux.proofs.ReadingUniqueness.{StandsFirst, cut_stands, end_no_fault, first_of, item_no_end, item_once}
 
 -- a list begins so
 record Begins (front whole : List ℕ) : Type 0 where
@@ -29,12 +29,7 @@ record AreWhole (chosen : Option ℕ) (items : List Item) (bytes : List ℕ) : T
 
 abbrev first_item : {chosen : Option ℕ} {y : Item} {ys : List Item} {bytes : List ℕ} → AreWhole chosen (y ∷ ys) bytes
     → StandsFirst chosen bytes
-first_item {y} {ys} whole = record {
-  item = y;
-  rest = bytes_of ys ++ whole.tail;
-  is_item = whole.are.0;
-  is = sym (append_assoc (item_bytes y) (bytes_of ys) whole.tail) ∙ sym whole.is;
-}
+first_item {y} {ys} whole = first_of y ys whole.tail whole.are.0 whole.is
 
 -- the items after those that are known
 record IsStripped (chosen : Option ℕ) (items items' : List Item) (l : List ℕ) : Type 0 where
@@ -46,19 +41,9 @@ strip : {chosen : Option ℕ} {items items' : List Item} {l : List ℕ} → AreI
     → AreWhole chosen items' (bytes_of items ++ l) → IsStripped chosen items items' l
 strip {items = []} {items'} p whole = record { more = items'; whole = whole; video = refl }
 strip {chosen} {items = x ∷ xs} {items' = []} {l} p whole =
-    absurd (item_no_end {chosen = chosen} (record {
-      item = x;
-      rest = bytes_of xs ++ l;
-      is_item = p.0;
-      is = sym (append_assoc (item_bytes x) (bytes_of xs) l) ∙ whole.is;
-    }) whole.end)
+    absurd (item_no_end {chosen = chosen} (first_of x xs l p.0 (sym whole.is)) whole.end)
 strip {chosen} {items = x ∷ xs} {items' = y ∷ ys} {l} p whole =
-    let same = item_once (record {
-      item = x;
-      rest = bytes_of xs ++ l;
-      is_item = p.0;
-      is = sym (append_assoc (item_bytes x) (bytes_of xs) l);
-    }) (first_item whole) in
+    let same = item_once (first_of x xs l p.0 refl) (first_item whole) in
     let next : chosen_next chosen y ≡ chosen_next chosen x = ap (chosen_next chosen) (sym same.item) in
     let rest = strip {chosen = chosen_next chosen x} {items = xs} {items' = ys} {l = l} p.1 (record {
       tail = whole.tail;

@@ -1,13 +1,12 @@
 //! What a system stream is, said in the fields of ISO/IEC 11172-1.
 
-ghost use Rattle.std.specs.Prelude.{◌≡◌, ◌≢◌, ◌↔◌, ◌⊎◌, ◌+◌, ◌/◌, ◌<◌, ◌∷◌, ◌++◌, ℕ, List};
-ghost use Rattle.std.specs.Prelude.{◌≤◌, length, None, Some, take};
+ghost use Rattle.std.specs.Prelude.{◌≡◌, ◌≢◌, ◌↔◌, ◌⊎◌, ◌+◌, ◌/◌, ◌<◌, ◌∷◌, ◌++◌, ℕ, List, ◌≤◌};
+ghost use Rattle.std.specs.Prelude.{length, None, Some, take};
 ghost use Rattle.sys_demux.specs.PacketContents.{video_in};
 ghost use Rattle.sys_demux.specs.StandardFields.{AreElements, Element, HasHeader, IsElement};
 ghost use Rattle.sys_demux.specs.StandardFields.{IsStrayByte, IsStreamEnd, element_bytes};
 ghost use Rattle.sys_demux.specs.StandardFields.{first_stream, first_video, front_of, packet_bytes};
-ghost use Rattle.sys_demux.specs.StandardFields.{stream_bytes};
-ghost use Rattle.sys_demux.specs.StandardFields.{video_stream_id, with_code};
+ghost use Rattle.sys_demux.specs.StandardFields.{stream_bytes, video_stream_id, with_code};
 ghost use Rattle.sys_demux.specs.SystemStreams.{IsSystem, IsBadStream};
 ghost use Rattle.sys_demux.specs.ParserStates.{WasFed};
 ghost use Rattle.sys_demux.specs.declared.faults.SystemFault.{SystemFault};

@@ -1,6 +1,6 @@
 //! Where in a system stream the next byte stands, and where a byte leads.
 
-ghost use Rattle.std.specs.Prelude.{◌≡◌, ℕ, ◌+◌, ◌-◌, ◌≤◌, ◌<◌, ◌==◌, if◌then◌else◌, IsTrue};
+ghost use Rattle.std.specs.Prelude.{◌≡◌, ◌+◌, ◌-◌, ◌≤◌, ◌<◌, ◌==◌, if◌then◌else◌, IsTrue};
 ghost use Rattle.std.specs.Prelude.{[], ◌∷◌, length};
 ghost use Rattle.sys_demux.specs.StreamItems.{choose, is_chosen};
 ghost use Rattle.sys_demux.specs.ValidStates.{least_rest, is_sound};
