@@ -1,8 +1,7 @@
 -- What calls and doings that are appended add.
 use Rattle.std.proofs.Common.{◌≡◌, ℕ, Option, Some, Bool, true, false, ◌||◌, List, [], ◌∷◌, ◌++◌, refl, sym, ap, ◌∙◌}
 use Rattle.std.proofs.Common.{append_assoc}
-use Rattle.vod_base.specs.Links.{IoEvent, HeardBytes, HeardSlot, HeardEnd, Sent, sends}
-use Rattle.vod_base.specs.MemoryLinks.{sent_of}
+use Rattle.vod_base.specs.Links.{IoEvent, sends}
 use Rattle.socket_link.specs.declared.limits.Watch.{Watch}
 use Rattle.socket_link.specs.Calls.{SocketCall, bytes_taken, taken_of, arrival_of, arrivals_of}
 use Rattle.socket_link.specs.Slots.{slots_after, slots_due}
@@ -43,13 +42,6 @@ reached_limit-append w (x ∷ xs) ys =
     ap (λ b. reaches_limit w x || b) (reached_limit-append (watched w x) xs ys)
     ∙ or_assoc (reaches_limit w x) (reached_limit (watched w x) xs) (reached_limit (watch_of (watched w x) xs) ys)
 
-pub sent_of-append : (xs ys : List IoEvent) → sent_of (xs ++ ys) ≡ sent_of xs ++ sent_of ys
-sent_of-append [] ys = refl
-sent_of-append (Sent byte ∷ xs) ys = ap (λ bytes. byte ∷ bytes) (sent_of-append xs ys)
-sent_of-append (HeardBytes bytes ∷ xs) ys = sent_of-append xs ys
-sent_of-append (HeardSlot slot ∷ xs) ys = sent_of-append xs ys
-sent_of-append (HeardEnd ∷ xs) ys = sent_of-append xs ys
-
 pub heard_of-append : (xs ys : List IoEvent) → heard_of (xs ++ ys) ≡ heard_of xs ++ heard_of ys
 heard_of-append [] ys = refl
 heard_of-append (x ∷ xs) ys =
@@ -62,10 +54,6 @@ slots_heard-append slots [] ys = refl
 slots_heard-append slots (x ∷ xs) ys = slots_heard-append (slots_with slots x) xs ys
 
 -- bytes that are sent are no events
-pub sent_of-sends : (bytes : List ℕ) → sent_of (sends bytes) ≡ bytes
-sent_of-sends [] = refl
-sent_of-sends (byte ∷ bytes) = ap (λ bs. byte ∷ bs) (sent_of-sends bytes)
-
 pub heard_of-sends : (bytes : List ℕ) → heard_of (sends bytes) ≡ []
 heard_of-sends [] = refl
 heard_of-sends (byte ∷ bytes) = heard_of-sends bytes

@@ -15,8 +15,8 @@ use Rattle.socket_link.specs.Slots.{slots_due, slots_after, is_for_slots}
 use Rattle.socket_link.specs.Limits.{no_watch, watch_of}
 use Rattle.socket_link.specs.Histories.{heard_of, slots_heard, Follows}
 use Rattle.socket_link.proofs.Appends.{taken_of-append, arrivals_of-append, slots_due-append, watch_of-append}
-use Rattle.socket_link.proofs.Appends.{sent_of-append, heard_of-append, slots_heard-append, sent_of-sends}
-use Rattle.socket_link.proofs.Appends.{heard_of-sends, slots_heard-sends}
+use Rattle.vod_base.proofs.LinkLogLemmas.{sent_of-append, sent_of-sends}
+use Rattle.socket_link.proofs.Appends.{heard_of-append, heard_of-sends, slots_heard-append, slots_heard-sends}
 
 -- what `Follows` speaks of
 pub record LinkState : Type 0 where

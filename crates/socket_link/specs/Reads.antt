@@ -15,6 +15,4 @@ read_call End into = GaveEnd
 -- bytes that came are at least one, and fit
 abbrev pub IsReadWithin : ReadOutcome → ℕ → Type 0
 IsReadWithin (Bytes count) room = (1 ≤ count) × (count ≤ room)
-IsReadWithin Nothing room = ⊤
-IsReadWithin Interrupted room = ⊤
-IsReadWithin End room = ⊤
+IsReadWithin _ room = ⊤

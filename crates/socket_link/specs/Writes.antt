@@ -13,5 +13,4 @@ write_call Interrupted bytes = WasInterrupted
 -- bytes that were taken are at least one, and no more than were offered
 abbrev pub IsWrittenWithin : WriteOutcome → ℕ → Type 0
 IsWrittenWithin (Bytes count) offered = (1 ≤ count) × (count ≤ offered)
-IsWrittenWithin Nothing offered = ⊤
-IsWrittenWithin Interrupted offered = ⊤
+IsWrittenWithin _ offered = ⊤

@@ -1,7 +1,6 @@
 //! The end of a connection: what waits is written out, and what the peer still sends is read on.
 
-ghost use Rattle.std.specs.Prelude.{◌≡◌, ◌≤◌, ◌++◌, ◌∷◌, ◌⊎◌, [], IsTrue, length};
-ghost use Rattle.std.specs.Prelude.{OnOk, OnErr};
+ghost use Rattle.std.specs.Prelude.{◌≡◌, ◌≤◌, ◌++◌, ◌∷◌, ◌⊎◌, [], IsTrue, length, OnOk, OnErr};
 ghost use Rattle.vod_base.specs.MemoryLinks.{sent_of};
 ghost use Rattle.socket_link.specs.Calls.{ShutDown};
 ghost use Rattle.socket_link.specs.Histories.{IsCause};

@@ -1,9 +1,8 @@
 //! A link over a socket.
 
-ghost use Rattle.std.specs.Prelude.{◌≡◌, ℕ, ◌<◌, ◌≤◌, ◌++◌, ◌∷◌, ◌⊎◌, [], Some, None};
-ghost use Rattle.std.specs.Prelude.{false};
-ghost use Rattle.std.specs.Prelude.{IsTrue, IsSome, length, take, max, slice_get};
-ghost use Rattle.std.specs.Prelude.{IfOk, OnOk, OnErr, IfSome};
+ghost use Rattle.std.specs.Prelude.{◌≡◌, ℕ, ◌<◌, ◌≤◌, ◌++◌, ◌∷◌, ◌⊎◌, [], Some, None, false};
+ghost use Rattle.std.specs.Prelude.{IsTrue, IsSome, length, take, max, slice_get, IfOk, OnOk};
+ghost use Rattle.std.specs.Prelude.{OnErr, IfSome};
 ghost use Rattle.std.proofs.Props.{props};
 ghost use Rattle.vod_base.specs.IoState.{HasRisen};
 ghost use Rattle.vod_base.specs.Links.{io_event_of, IsWithin, sends, told_more, IsSentPrefix};
@@ -12,9 +11,9 @@ ghost use Rattle.socket_link.specs.Limits.{clocked};
 ghost use Rattle.socket_link.specs.Slots.{is_for_slots, is_newer};
 ghost use Rattle.socket_link.specs.Histories.{Follows, slots_heard, IsCause, told_if};
 ghost use Rattle.socket_link.specs.Steps.{HasServed, HasCalled, HasLooked, HasFoundEnd};
+ghost use Rattle.socket_link.specs.Steps.{doings_read, doings_looked, IsInOrder, IsNoSlot};
 ghost use Rattle.socket_link.specs.Waits.{last_from, FitsAfter};
 ghost use Rattle.socket_link.specs.Flushes.{IsLeft};
-ghost use Rattle.socket_link.specs.Steps.{doings_read, doings_looked, IsInOrder, IsNoSlot};
 
 use crate::buffers::WriteBuffer;
 use crate::clocks::{rest_of_slot, slot_at};
