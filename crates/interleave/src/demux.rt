@@ -1,10 +1,8 @@
 //! The bytes of a connection that wait, and the first element of them.
 
 ghost use Rattle.std.specs.Prelude.{◌≡◌, ◌+◌, ◌-◌, ◌*◌, ◌<◌, ◌≤◌, ◌++◌, [], length, drop, nat_lt};
-ghost use Rattle.std.specs.Prelude.{slice_index, if◌then◌else◌, vec_capacity, IfOk, MatchResult};
-ghost use Rattle.std.specs.Prelude.{is_err, Ok, Err};
-ghost use Rattle.interleave.specs.Elements.{IsFirst, AreLineEnds, StartsBlock, StartsMessage};
-ghost use Rattle.interleave.specs.Elements.{block_length};
+ghost use Rattle.std.specs.Prelude.{if◌then◌else◌, vec_capacity, IfOk, is_err, Ok, Err};
+ghost use Rattle.interleave.specs.Elements.{IsFirst, AreLineEnds, StartsBlock};
 ghost use Rattle.interleave.specs.Heads.{is_line_end};
 ghost use Rattle.interleave.specs.declared.elements.Step.{Step};
 

@@ -4,8 +4,7 @@ ghost use Rattle.std.specs.Prelude.{◌≡◌, ℕ, ◌+◌, ◌/◌, ◌%◌, �
 ghost use Rattle.std.specs.Prelude.{drop, Ok, Result};
 ghost use Rattle.interleave.specs.Laws.{BeginsOtherwise, IsCrOrLf};
 ghost use Rattle.interleave.specs.Streams.{AreInputElements, SharePrefix, HasStream, IsStream};
-ghost use Rattle.interleave.specs.Streams.{ReturnsNoElement};
-ghost use Rattle.interleave.specs.Streams.{returned_length, returned_elements};
+ghost use Rattle.interleave.specs.Streams.{ReturnsNoElement, returned_length, returned_elements};
 ghost use Rattle.interleave.specs.declared.elements.DemuxFault.{DemuxFault};
 ghost use Rattle.interleave.specs.declared.elements.Step.{Step};
 ghost use Rattle.interleave.specs.Elements.{IsFirst, IsLongerSkip, IsWholeElement};

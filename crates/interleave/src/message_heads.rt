@@ -1,7 +1,6 @@
 //! Finds the end of a request.
 
-ghost use Rattle.std.specs.Prelude.{◌≡◌, ◌+◌, ◌<◌, ◌≤◌, true, false, ℕ, length, MatchOption};
-ghost use Rattle.std.specs.Prelude.{MatchResult, Ok, Err};
+ghost use Rattle.std.specs.Prelude.{◌≡◌, ◌+◌, ◌<◌, ◌≤◌, length, MatchOption, MatchResult, Ok, Err};
 ghost use Rattle.interleave.specs.declared.elements.DemuxFault.{DemuxFault};
 ghost use Rattle.interleave.specs.declared.elements.Step.{Step};
 ghost use Rattle.interleave.specs.Heads.{empty_line_ends, HasNoHead, IsHead};
