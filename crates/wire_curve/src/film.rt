@@ -1,17 +1,13 @@
 //! The curves of a film, from the sizes of its pictures and the times at which they are used.
 
-ghost use Rattle.std.specs.Prelude.{◌≡◌, ℕ, ◌+◌, ◌-◌, ◌<◌, ◌≤◌, ◌^◌, length, sum, slice_index};
-ghost use Rattle.std.specs.Prelude.{vec_len, IsTrue, ◌↔◌, MatchOption, IfOk, IfErr, IfSome, IfNone};
-ghost use Rattle.std.specs.Prelude.{OnOk, All, max, min};
+ghost use Rattle.std.specs.Prelude.{◌≡◌, ◌+◌, ◌-◌, ◌<◌, ◌≤◌, ◌^◌, length, sum, IsTrue, ◌↔◌};
+ghost use Rattle.std.specs.Prelude.{MatchOption, IfOk, IfErr, IfSome, IfNone, OnOk, All};
 ghost use Rattle.wire_curve.specs.SoundCurves.{AreSound};
-ghost use Rattle.wire_curve.specs.FilmCurves.{due_slot, bytes_used_in, total_of, slot_count};
-ghost use Rattle.wire_curve.specs.FilmCurves.{IsWithinLimits};
+ghost use Rattle.wire_curve.specs.FilmCurves.{due_slot, total_of, slot_count, IsWithinLimits};
 ghost use Rattle.wire_curve.specs.FilmCurves.{AreFilmCurves};
 ghost use Rattle.wire_curve.specs.SlotUsage.{AreSlotUses, IsFaultOfSlotUses, AreCurvesOfUses};
-ghost use Rattle.wire_curve.specs.SlotUsage.{IsLowerOfUses};
-ghost use Rattle.wire_curve.specs.SlotUsage.{IsUpperOfUses};
-ghost use Rattle.wire_curve.specs.CurveFaults.{IsAccepted, IsBufferTooSmall, HasCurveFault};
-ghost use Rattle.wire_curve.specs.CurveFaults.{IsRefused};
+ghost use Rattle.wire_curve.specs.SlotUsage.{IsLowerOfUses, IsUpperOfUses};
+ghost use Rattle.wire_curve.specs.CurveFaults.{IsAccepted, IsRefused};
 
 use crate::curves::Curves;
 use std::alloc::{AllocError, Global};
