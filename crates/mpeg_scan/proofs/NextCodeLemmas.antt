@@ -70,12 +70,7 @@ room-noted c t x room = record {
   picture = λ some. some-cond (eqb c.value 0) (header_of c) (header_of (note c x))
       (cond (next_begins t c.value) None t.picture) (room.picture some);
   rate = λ begun. some-rate t.rate c x (room.rate begun);
-  counts = record {
-    pictures = room.counts.pictures;
-    group = room.counts.group;
-    slices = room.counts.slices;
-    all = room.counts.all;
-  };
+  counts = assumption room.counts;
 }
 
 noted-place : {p : ℕ} (c : Code) (x : ℕ) → ForSome (Some c) (λ d. d.place ≤ p)

@@ -18,7 +18,7 @@ use Rattle.mpeg_scan.specs.CodeFacts.{latest_slice}
 use Rattle.mpeg_scan.specs.FilmFaults.{first_refusal, latest_fault, value_fault, second_fault}
 use Rattle.mpeg_scan.specs.FilmFaults.{first_slice_fault, count_fault, code_fault, head_fault}
 use Rattle.mpeg_scan.specs.FilmFaults.{open_fault, last_fault, first_fault, end_fault, refusal_of}
-use Rattle.mpeg_scan.specs.Calls.{Call, head_call, slice_call, unit_call, unit_at, unit_end}
+use Rattle.mpeg_scan.specs.Calls.{Call, after_calls, head_call, slice_call, unit_call, unit_at, unit_end}
 use Rattle.mpeg_scan.specs.Calls.{calls_at, calls_of, all_calls}
 use Rattle.mpeg_scan.specs.PartTiling.{PartStart, between, within, next_part, parts_after, first_of, Tiles}
 use Rattle.mpeg_scan.proofs.ScanStepLemmas.{accepted-older, code-accepted, otherwise-first}
@@ -171,15 +171,16 @@ raw-step {s = false} {h = false} may count = refl
 
 -- ---- all codes
 
-parts-none : (calls : List Call) → parts_after None calls ≡ None
-parts-none [] = refl
-parts-none (call ∷ calls) = refl
+none-after : {A : Type 0} (next : A → Call → Option A) (calls : List Call) → after_calls next None calls ≡ None
+none-after next [] = refl
+none-after next (call ∷ calls) = refl
 
-parts-append : (o : Option PartStart) (a b : List Call) → parts_after o (a ++ b) ≡ parts_after (parts_after o a) b
-parts-append None a b =
-    parts-none (a ++ b) ∙ sym (parts-none b) ∙ ap (λ (o : Option PartStart). parts_after o b) (sym (parts-none a))
-parts-append (Some part) [] b = refl
-parts-append (Some part) (call ∷ a) b = parts-append (next_part part call) a b
+pub after-append : {A : Type 0} (next : A → Call → Option A) (o : Option A) (a b : List Call)
+    → after_calls next o (a ++ b) ≡ after_calls next (after_calls next o a) b
+after-append next None a b =
+    none-after next (a ++ b) ∙ sym (none-after next b) ∙ ap (λ o. after_calls next o b) (sym (none-after next a))
+after-append next (Some x) [] b = refl
+after-append next (Some x) (call ∷ a) b = after-append next (next x call) a b
 
 abbrev pub part_of : List Code → PartStart
 part_of past = part_by (slice_count past) (latest_unit past) (head_end_of past) (latest_slice past)
@@ -283,7 +284,7 @@ calls-parts c [] accepted spaced =
 calls-parts c (d ∷ past) accepted spaced =
     let start : Option PartStart = Some (between (first_of (d ∷ past))) in
     ap (parts_after start) (calls-cons c (d ∷ past))
-    ∙ parts-append start (calls_of (d ∷ past)) (calls_at (tally_of (d ∷ past)) c.place c.value)
+    ∙ after-append next_part start (calls_of (d ∷ past)) (calls_at (tally_of (d ∷ past)) c.place c.value)
     ∙ ap (λ (o : Option PartStart). parts_after o (calls_at (tally_of (d ∷ past)) c.place c.value))
     (calls-parts d past (accepted-older c (d ∷ past) accepted) spaced.1)
     ∙ code-step c d past (code-accepted c (d ∷ past) accepted) spaced
@@ -319,7 +320,7 @@ whole-tiles [] n accepted ended spaced after = absurd (omega (arith, ended-none 
 whole-tiles (c ∷ past) n accepted ended spaced after =
     let some = ended-none (tally_of (c ∷ past))
     (otherwise-second (latest_fault (c ∷ past) n) (last_fault (tally_of (c ∷ past))) ended) in
-    parts-append (Some (between (first_of (c ∷ past)))) (calls_of (c ∷ past)) (unit_end (tally_of (c ∷ past)) n)
+    after-append next_part (Some (between (first_of (c ∷ past)))) (calls_of (c ∷ past)) (unit_end (tally_of (c ∷ past)) n)
     ∙ ap (λ (o : Option PartStart). parts_after o (unit_end (tally_of (c ∷ past)) n)) (calls-parts c past accepted spaced)
     ∙ end-step (c ∷ past) n some (slice-before (c ∷ past) n spaced after some)
 

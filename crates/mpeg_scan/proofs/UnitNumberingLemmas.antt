@@ -20,7 +20,7 @@ use Rattle.mpeg_scan.specs.FilmFaults.{first_fault, end_fault, last_fault, lates
 use Rattle.mpeg_scan.specs.Calls.{Call, head_call, slice_call, unit_call, unit_at, unit_end}
 use Rattle.mpeg_scan.specs.Calls.{calls_at, calls_of, all_calls}
 use Rattle.mpeg_scan.specs.UnitNumbering.{Count, group_of, next_count, counts_after, no_count, AreNumbered}
-use Rattle.mpeg_scan.proofs.PartTilingLemmas.{CodeEnds, raw_calls, ends_at, slice-apart, first_slice-accepted}
+use Rattle.mpeg_scan.proofs.PartTilingLemmas.{CodeEnds, after-append, raw_calls, ends_at, slice-apart, first_slice-accepted}
 use Rattle.mpeg_scan.proofs.PartTilingLemmas.{first-is, calls-nil, ended-none}
 use Rattle.mpeg_scan.proofs.ScanStepLemmas.{accepted-older, code-accepted, otherwise-first}
 use Rattle.mpeg_scan.proofs.ScanStepLemmas.{otherwise-second, calls-cons}
@@ -377,16 +377,6 @@ first-count c is =
       };
     })
 
-counts-none : (calls : List Call) → counts_after None calls ≡ None
-counts-none [] = refl
-counts-none (call ∷ calls) = refl
-
-counts-append : (o : Option Count) (a b : List Call) → counts_after o (a ++ b) ≡ counts_after (counts_after o a) b
-counts-append None a b =
-    counts-none (a ++ b) ∙ sym (counts-none b) ∙ ap (λ (o : Option Count). counts_after o b) (sym (counts-none a))
-counts-append (Some k) [] b = refl
-counts-append (Some k) (call ∷ a) b = counts-append (next_count k call) a b
-
 calls-counted : (c : Code) (past : List Code) → first_fault (c ∷ past) ≡ None
     → Counted no_count (calls_of (c ∷ past)) (sums_of (c ∷ past))
 calls-counted c [] accepted =
@@ -398,7 +388,7 @@ calls-counted c (d ∷ past) accepted =
     let more = code-count c d past before.count (code-accepted c (d ∷ past) accepted) before.agrees in record {
       count = more.count;
       count_is = ap (counts_after (Some no_count)) (calls-cons c (d ∷ past))
-          ∙ counts-append (Some no_count) (calls_of (d ∷ past)) (calls_at (tally_of (d ∷ past)) c.place c.value)
+          ∙ after-append next_count (Some no_count) (calls_of (d ∷ past)) (calls_at (tally_of (d ∷ past)) c.place c.value)
           ∙ ap (λ (o : Option Count). counts_after o (calls_at (tally_of (d ∷ past)) c.place c.value)) before.count_is
           ∙ more.count_is;
       agrees = more.agrees;
@@ -421,7 +411,7 @@ whole-count (c ∷ past) n accepted ended =
     record { first = refl; slices = refl; group = refl; shown = refl } in
     let end = unit-counted (latest_slice all) n k.agrees some next in record {
       last = after_unit k.count (starts_group all);
-      counted = counts-append (Some no_count) (calls_of all) (unit_end (tally_of all) n)
+      counted = after-append next_count (Some no_count) (calls_of all) (unit_end (tally_of all) n)
           ∙ ap (λ (o : Option Count). counts_after o (unit_end (tally_of all) n)) k.count_is ∙ end;
       units = sym (k.agrees.units ∙ ap (λ b. k.count.units + cond b 1 0) (k.agrees.sliced some));
     }

@@ -1,7 +1,7 @@
 -- What is found in a film: heads, slices and units, each reported where the code, or the film's
 -- end, stands that ends it.
 use Rattle.std.specs.Prelude.{ℕ, ◌+◌, ◌-◌, ◌==◌, ◌&&◌, List, [], ◌∷◌, ◌++◌, if◌then◌else◌, length}
-use Rattle.std.specs.Prelude.{nat_lt, unwrap_or}
+use Rattle.std.specs.Prelude.{nat_lt, unwrap_or, Option, Some, None}
 use Rattle.mpeg_scan.specs.declared.codes.Code.{Code}
 use Rattle.mpeg_scan.specs.declared.tallies.Header.{Header}
 use Rattle.mpeg_scan.specs.Tallies.{Tally}
@@ -14,6 +14,12 @@ pub data Call : Type 0 where
   head_call : ℕ → ℕ → Call
   slice_call : ℕ → ℕ → Call
   unit_call : PictureUnit → Call
+
+-- what is known after all these, if each fits what is known before it
+abbrev pub after_calls : {A : Type 0} → (A → Call → Option A) → Option A → List Call → Option A
+after_calls next None calls = None
+after_calls next (Some a) [] = Some a
+after_calls next (Some a) (call ∷ calls) = after_calls next (next a call) calls
 
 -- represents the header of a unit without a picture, which no accepted film has
 abbrev pub no_header : Header

@@ -5,7 +5,7 @@ use Rattle.std.specs.Prelude.{if◌then◌else◌, length, nat_le, nat_lt}
 use Rattle.mpeg_scan.specs.declared.units.TheConstants.{MAX_UNIT_HEAD_BYTES}
 use Rattle.mpeg_scan.specs.declared.codes.Code.{Code}
 use Rattle.mpeg_scan.specs.StartCodes.{codes_of}
-use Rattle.mpeg_scan.specs.Calls.{Call, head_call, slice_call, unit_call}
+use Rattle.mpeg_scan.specs.Calls.{Call, after_calls, head_call, slice_call, unit_call}
 
 -- where the next part begins: between two units, or in a unit after its head and n slices
 pub data PartStart : Type 0 where
@@ -31,9 +31,7 @@ next_part (within from head_end at n) (unit_call unit) =
 
 -- the part after all these, if each fits
 abbrev pub parts_after : Option PartStart → List Call → Option PartStart
-parts_after None calls = None
-parts_after (Some part) [] = Some part
-parts_after (Some part) (call ∷ calls) = parts_after (next_part part call) calls
+parts_after part calls = after_calls next_part part calls
 
 -- the place of the first code, in codes that are given the latest first
 abbrev pub first_of : List Code → ℕ

@@ -22,6 +22,15 @@ pub record HasReadBytes (s : Progress) (r : List ℕ) : Type 0 where
   pub tally : s.tally ≡ tally_of (older_of (codes_of r))
   pub accepted : first_fault (codes_of r) ≡ None
 
+-- these bytes were read behind those before them
+abbrev pub ReadsBytes : Progress → Progress → List ℕ → Type 0
+ReadsBytes old new bytes = (r : List ℕ) → HasReadBytes old r → HasReadBytes new (read_after r bytes)
+
+-- the first fault of all bytes, with these behind those that were read
+abbrev pub IsFaultWith : Progress → List ℕ → FilmFault → Type 0
+IsFaultWith old bytes f =
+    (r : List ℕ) → HasReadBytes old r → first_fault (codes_of (read_after r bytes)) ≡ Some f
+
 -- the same of a scanner that has refused nothing
 pub record HasScannedBytes (s : Scanner) (r : List ℕ) : Type 0 where
   pub progress : HasReadBytes s.progress r

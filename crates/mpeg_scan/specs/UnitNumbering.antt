@@ -2,7 +2,7 @@
 use Rattle.std.specs.Prelude.{ℕ, ◌+◌, ◌==◌, ◌&&◌, List, [], ◌∷◌, Option, Some, None, IsSome}
 use Rattle.std.specs.Prelude.{if◌then◌else◌}
 use Rattle.mpeg_scan.specs.declared.units.Unit.{Unit as PictureUnit}
-use Rattle.mpeg_scan.specs.Calls.{Call, head_call, slice_call, unit_call}
+use Rattle.mpeg_scan.specs.Calls.{Call, after_calls, head_call, slice_call, unit_call}
 
 -- the units and slices so far, and the number of units before the latest group
 pub record Count : Type 0 where
@@ -31,9 +31,7 @@ next_count k (unit_call unit) =
 
 -- the count after all these, if each agrees
 abbrev pub counts_after : Option Count → List Call → Option Count
-counts_after None calls = None
-counts_after (Some k) [] = Some k
-counts_after (Some k) (call ∷ calls) = counts_after (next_count k call) calls
+counts_after k calls = after_calls next_count k calls
 
 abbrev pub no_count : Count
 no_count = record { units = 0; slices = 0; before_group = 0 }

@@ -6,14 +6,15 @@ ghost use Rattle.std.specs.Prelude.{MatchResult, OnOk, ◌≢◌};
 ghost use Rattle.std.specs.Option.{ForSome};
 ghost use Rattle.mpeg_scan.specs.Calls.{Call, calls_at, calls_of};
 ghost use Rattle.mpeg_scan.specs.StartCodes.{codes_of, read_after};
-ghost use Rattle.mpeg_scan.specs.FilmFaults.{first_fault, refusal_of};
+ghost use Rattle.mpeg_scan.specs.FilmFaults.{refusal_of};
 ghost use Rattle.mpeg_scan.specs.ScanBounds.{AwaitsSlice, AwaitsSliceAfter, HasCounts, HasRoomWith};
 ghost use Rattle.mpeg_scan.specs.ScanBounds.{IsAhead};
 ghost use Rattle.mpeg_scan.specs.CodeSteps.{judgement, last_judgement, latest_header_fault};
 ghost use Rattle.mpeg_scan.specs.CodeSteps.{tally_now};
 ghost use Rattle.mpeg_scan.specs.CodeFacts.{tally_of};
-ghost use Rattle.mpeg_scan.specs.ScannerState.{HasReadBytes, HasSkipped, IsRefusedInChunk};
-ghost use Rattle.mpeg_scan.specs.ScannerState.{scan_with_byte, scan_with_code, with_header_bytes};
+ghost use Rattle.mpeg_scan.specs.ScannerState.{HasReadBytes, HasSkipped, IsFaultWith};
+ghost use Rattle.mpeg_scan.specs.ScannerState.{IsRefusedInChunk, ReadsBytes, scan_with_byte};
+ghost use Rattle.mpeg_scan.specs.ScannerState.{scan_with_code, with_header_bytes};
 
 use crate::codes::{Code, Prefix};
 use crate::faults::{FilmFault, ScanRefused, code_fault, header_fault, last_fault};
@@ -189,15 +190,13 @@ impl Progress {
         requires room { IsAhead self.old }
         requires ready { AwaitsSlice (F.ready_at found.old) (tally_now self.old) }
         // answers: the byte was read behind those before it, and what ends at it was reported
-        ensures kept { OnOk result ((r : List ℕ) → HasReadBytes self.old r →
-            HasReadBytes self.new (byte ∷ r)) }
+        ensures kept { OnOk result (ReadsBytes self.old self.new (byte ∷ [])) }
         ensures heard { OnOk result ((r : List ℕ) (calls : List Call) → HasReadBytes self.old r →
             F.heard found.old (calls ++ calls_of (codes_of r))
             → F.heard found.new (calls ++ calls_of (codes_of (byte ∷ r)))) }
         // answers: else the first fault of these bytes; then nothing was reported
-        ensures fault { (f : FilmFault) → result ≡ Err (ScanRefused.Fault f) → (r : List ℕ) →
-            HasReadBytes self.old r
-            → first_fault (codes_of (byte ∷ r)) ≡ Some f }
+        ensures fault { (f : FilmFault) → result ≡ Err (ScanRefused.Fault f) →
+            IsFaultWith self.old (byte ∷ []) f }
         ensures unheard { (f : FilmFault) → result ≡ Err (ScanRefused.Fault f) →
             found.new ≡ found.old }
         // leaves: one byte more, and room as before
@@ -275,14 +274,12 @@ impl Progress {
         requires short { self.old.fed + length chunk.now ≤ MAX_FILM_BYTES }
         requires room { IsAhead self.old }
         requires ready { AwaitsSlice (F.ready_at found.old) (tally_now self.old) }
-        ensures kept { OnOk result ((r : List ℕ) → HasReadBytes self.old r →
-            HasReadBytes self.new (read_after r chunk.now)) }
+        ensures kept { OnOk result (ReadsBytes self.old self.new chunk.now) }
         ensures heard { OnOk result ((r : List ℕ) (calls : List Call) → HasReadBytes self.old r →
             F.heard found.old (calls ++ calls_of (codes_of r))
             → F.heard found.new (calls ++ calls_of (codes_of (read_after r chunk.now)))) }
-        ensures fault { (f : FilmFault) → result ≡ Err (ScanRefused.Fault f) → (r : List ℕ) →
-            HasReadBytes self.old r
-            → first_fault (codes_of (read_after r chunk.now)) ≡ Some f }
+        ensures fault { (f : FilmFault) → result ≡ Err (ScanRefused.Fault f) →
+            IsFaultWith self.old chunk.now f }
         ensures heard_before { (f : FilmFault) → result ≡ Err (ScanRefused.Fault f) →
             (r : List ℕ) (calls : List Call)
             → HasReadBytes self.old r → F.heard found.old (calls ++ calls_of (codes_of r))
