@@ -5,8 +5,9 @@ use Rattle.std.proofs.Common.{arith, inl, inr}
 use Rattle.std.proofs.lemmas.Bool.{both_ways, cases_lt, eq-eqb, ne_eqb, le-leb, lt-leb, leb-false}
 use Rattle.std.proofs.lemmas.Bool.{le-ltb, ltb-false, or_from, or_right}
 use Rattle.rtp_pack.specs.declared.open_packet.TheConstants.{MAX_PAYLOAD_BYTES}
-use Rattle.mpeg_scan.specs.declared.units.Kind.TheVariants.{I}
 use Rattle.mpeg_scan.specs.declared.units.Unit.{Unit as PictureUnit}
+use Rattle.mpeg_scan.specs.Calls.{unit_at}
+use Rattle.mpeg_scan.specs.CodeFacts.{tally_of}
 use Rattle.rtp_pack.specs.declared.open_packet.OpenPacket.{OpenPacket}
 use Rattle.rtp_pack.specs.declared.open_packet.PacketContents.{PacketContents}
 use Rattle.rtp_pack.specs.declared.open_packet.PacketContents.TheVariants.{HeadersAlone, Slices, LastFragment}
@@ -34,14 +35,7 @@ record Rules : Type 1 where
 
 -- the rules from a cut on
 abbrev from_cut : Rules → ℕ → Rules
-from_cut rules cut = record {
-  Must = rules.Must;
-  Fits = rules.Fits;
-  May = rules.May;
-  start = cut;
-  end = rules.end;
-  reasons = rules.reasons;
-}
+from_cut rules cut = record rules { start = cut }
 
 -- what two lists are compared by, from the place on where a portion begins
 record Rest (rules : Rules) (cuts : List ℕ) : Type 0 where
@@ -431,19 +425,7 @@ cutting-meets {from} {headers_end} {slices} cuts unit cutting =
         ∙ end-cut slices (first_portion from headers_end) cuts cutting e.start e.length e.slice e.long
 
 no_unit : PictureUnit
-no_unit = record {
-  from = 0;
-  head_end = 0;
-  to = 0;
-  first_slice = 0;
-  slices = 0;
-  temporal = 0;
-  presentation = 0;
-  kind = I;
-  vectors = 0;
-  has_sequence = false;
-  starts_group = false;
-}
+no_unit = unit_at (tally_of []) 0
 
 -- there is such a list
 pub some-meets : {from headers_end : ℕ} {slices : List ℕ} → HeadersAndSlices from headers_end slices
