@@ -114,6 +114,14 @@ end_meets_high {at} {s} stays on_high = record {
   free = stays.above;
 }
 
+-- what is true up to a number and for some numbers past it, is true for all of them
+throughout : (P : ℕ → Type 0) (n : ℕ) {far : ℕ} → ((i : ℕ) → i ≤ n → P i) → ((i : ℕ) → i ≤ far → P (n + i))
+    → (i : ℕ) → i ≤ n + far → P i
+throughout P n within past i near = elim (cases_lt n i) [
+  | inr most ↦ within i most
+  | inl more ↦ subst P (omega arith) (past (i - n) (omega arith))
+]
+
 -- the meeting of a steeper segment's ray, seen along the ray of the segment before it
 low_further : (bend : Bend) → StaysBetween bend.at bend.first
     → bend.first.bytes * bend.next.slots ≤ bend.next.bytes * bend.first.slots
@@ -122,11 +130,8 @@ low_further bend stays steeper meets = record {
   far = s.slots + meets.far;
   later = omega (arith, meets.later);
   touches = above_ray bend at.lo meets.far steeper meets.touches;
-  free = λ i near. elim (cases_lt s.slots i) [
-    | inr within ↦ stays.below i within
-    | inl past ↦ subst (λ j. at.height * s.slots + j * s.bytes ≤ at.hi (at.place + j) * s.slots) (omega arith)
-        (above_ray bend at.hi (i - s.slots) steeper (meets.free (i - s.slots) (omega arith)))
-  ];
+  free = throughout (λ i. at.height * s.slots + i * s.bytes ≤ at.hi (at.place + i) * s.slots) s.slots stays.below
+      (λ i near. above_ray bend at.hi i steeper (meets.free i near));
 }
   where
     open bend use {at, first as s}
@@ -138,11 +143,8 @@ high_further bend stays flatter meets = record {
   far = s.slots + meets.far;
   later = omega (arith, meets.later);
   touches = below_ray bend at.hi meets.far flatter meets.touches;
-  free = λ i near. elim (cases_lt s.slots i) [
-    | inr within ↦ stays.above i within
-    | inl past ↦ subst (λ j. at.lo (at.place + j) * s.slots ≤ at.height * s.slots + j * s.bytes) (omega arith)
-        (below_ray bend at.lo (i - s.slots) flatter (meets.free (i - s.slots) (omega arith)))
-  ];
+  free = throughout (λ i. at.lo (at.place + i) * s.slots ≤ at.height * s.slots + i * s.bytes) s.slots stays.above
+      (λ i near. below_ray bend at.lo i flatter (meets.free i near));
 }
   where
     open bend use {at, first as s}

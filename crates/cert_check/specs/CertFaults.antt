@@ -1,7 +1,7 @@
 -- What can be wrong with a list of segments that claims to be taut between two curves. The curves
 -- begin at `from` and have one number for the end of each slot.
 use Rattle.std.specs.Prelude.{ℕ, ◌+◌, ◌-◌, ◌*◌, ◌<◌, ◌≡◌, ◌≢◌, List, length, slice_index}
-use Rattle.std.specs.Prelude.{Option, Some, None, unwrap_or}
+use Rattle.std.specs.Prelude.{Option, Some, None, unwrap_or, Result, MatchResult}
 use Rattle.slope_frac.specs.SlopeOrder.{IsLessSteep, IsEquallySteep}
 use Rattle.plan_cert.specs.declared.Segment.{Segment}
 use Rattle.plan_cert.specs.PlanSlots.{total_slots, total_bytes}
@@ -111,3 +111,10 @@ pub record IsFirstFault (from : ℕ) (low up : List ℕ) (segments : List Segmen
   pub no_lesser_number : (other : CertFault) → kind_of other ≡ kind_of fault →
       unwrap_or (fault_number other) 0 < unwrap_or (fault_number fault) 0 →
       ¬ HasCertFault from low up segments other
+
+-- what the search for a fault finds: the segments are taut, or this is their first fault
+abbrev pub IsVerdict : {A : Type 0} → ℕ → List ℕ → List ℕ → List Segment
+    → Result A CertFault → Type 0
+IsVerdict from low up segments verdict =
+    MatchResult verdict (λ _. IsTaut from low up segments)
+    (λ fault. IsFirstFault from low up segments fault)

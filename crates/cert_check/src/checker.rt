@@ -6,7 +6,7 @@ ghost use Rattle.cert_check.specs.declared.CertFault.TheVariants.{EmptySegment, 
 ghost use Rattle.cert_check.specs.declared.CertFault.TheVariants.{WrongTotal, BelowLow, AboveUp};
 ghost use Rattle.cert_check.specs.declared.CertFault.TheVariants.{EqualSlopes, RiseOffUpper};
 ghost use Rattle.cert_check.specs.declared.CertFault.TheVariants.{FallOffLower};
-ghost use Rattle.cert_check.specs.CertFaults.{IsTaut, IsFirstFault, kind_of};
+ghost use Rattle.cert_check.specs.CertFaults.{IsTaut, IsFirstFault, IsVerdict, kind_of};
 ghost use Rattle.cert_check.specs.CheckerSteps.{StaysWithin};
 ghost use Rattle.cert_check.specs.Optimality.{IsBestPlan};
 
@@ -59,10 +59,8 @@ pub fn law_faults_are_tried_in_order()
 /// The first fault.
 fn find_fault(curves: &Curves, segments: &[Segment]) -> Result<(), CertFault>
     requires { AreSound curves.now.from curves.now.low.items curves.now.up.items }
-    ensures { MatchResult result
-        (λ _. IsTaut curves.now.from curves.now.low.items curves.now.up.items segments.now)
-        (λ fault. IsFirstFault curves.now.from curves.now.low.items curves.now.up.items
-        segments.now fault) }
+    ensures { IsVerdict curves.now.from curves.now.low.items curves.now.up.items segments.now
+        result }
 {
     // Each test may rely on those before it: without empty segments, and with the slots and bytes
     // of the curves, the walk stays within both lists and its numbers are small.
@@ -87,10 +85,8 @@ fn find_fault(curves: &Curves, segments: &[Segment]) -> Result<(), CertFault>
 /// curves.
 fn check_bends(curves: &Curves, segments: &[Segment]) -> Result<(), CertFault>
     requires { StaysWithin curves.now.from curves.now.low.items curves.now.up.items segments.now }
-    ensures { MatchResult result
-        (λ _. IsTaut curves.now.from curves.now.low.items curves.now.up.items segments.now)
-        (λ fault. IsFirstFault curves.now.from curves.now.low.items curves.now.up.items
-        segments.now fault) }
+    ensures { IsVerdict curves.now.from curves.now.low.items curves.now.up.items segments.now
+        result }
 {
     if let Some(i) = first_equal(segments) {
         return Err(CertFault::EqualSlopes(i));

@@ -1,6 +1,6 @@
 //! A walk along the line of segments, slot by slot, between the two curves.
 
-ghost use Rattle.std.specs.Prelude.{ℕ, ◌≡◌, ◌+◌, ◌*◌, ◌^◌, ◌<◌, ◌≤◌, length};
+ghost use Rattle.std.specs.Prelude.{◌≡◌, ◌+◌, ◌*◌, ◌^◌, ◌<◌, ◌≤◌, length};
 ghost use Rattle.cert_check.specs.CheckerSteps.{AddsUp, next_walk, IsFirstExit};
 ghost use Rattle.cert_check.specs.ExactLine.{segment_at};
 
