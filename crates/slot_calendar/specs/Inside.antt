@@ -1,6 +1,7 @@
 -- How a calendar is kept: a profile, and a ring whose blocks all have their greatest totals.
 use Rattle.std.specs.Prelude.{◌≡◌, None}
-use Rattle.slot_calendar.specs.Calendars.{CalendarState, IsCalendar}
+use Rattle.slot_calendar.specs.Calendars.{IsCalendar}
+pub use Rattle.slot_calendar.specs.Calendars.{CalendarState}
 use Rattle.slot_calendar.specs.declared.calendar.Calendar.TheInside.{Inside}
 
 abbrev pub calendar_state : Inside → CalendarState

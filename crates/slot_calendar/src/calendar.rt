@@ -38,11 +38,9 @@ pub struct Calendar {
 }
 
 impl Model for Calendar {
-    ghost use Rattle.slot_calendar.specs.Calendars.{CalendarState};
+    ghost use Rattle.slot_calendar.specs.Inside.{CalendarState, calendar_state, IsCalendarInside};
 
     ghost Value = { CalendarState };
-
-    ghost use Rattle.slot_calendar.specs.Inside.{calendar_state, IsCalendarInside};
 
     ghost view = { calendar_state };
 

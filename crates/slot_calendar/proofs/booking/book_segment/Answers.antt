@@ -22,14 +22,13 @@ loop-passed-preserved c =
     omega (arith, asked-here segments c.args.from i.passed, i.invariant.before_is, sent) in
     let step : OneSlotMore place c.args.ring.now i.ring c.raise.new.self =
     record { first_is = i.invariant.first_is; others = c.raise.ensures.others; rest = i.invariant.rest } in
-    let at : c.args.from + (i.passed + 1) ≡ place + 1 = omega arith in
     record {
       before_is = sym (c.sent_through-sent.ensures.sent c.args.from);
       first_is = c.raise.ensures.now ∙ i.invariant.first_is;
       stale_is = c.raise.ensures.stale ∙ i.invariant.stale_is;
       done = λ t since less. changed-next step (λ t was is. is ≡ was + asked_at segments c.args.from t)
-          (λ _. omega (arith, c.raise.ensures.at, asked)) i.invariant.done since (omega (arith, less, at));
-      rest = λ t since more. unchanged-next step since (omega (arith, more, at));
+          (λ _. omega (arith, c.raise.ensures.at, asked)) i.invariant.done since (omega (arith, less));
+      rest = λ t since more. unchanged-next step since (omega (arith, more));
     }
 
 pub returns-clause-totals : goal.returns-clause-totals

@@ -35,15 +35,14 @@ loop-passed-preserved c =
     omega (arith, cut-here segments c.args.from c.args.keep i.passed, i.invariant.before_is, over, sent) in
     let step : OneSlotMore place c.args.ring.now i.ring c.release_slot.new.ring =
     record { first_is = i.invariant.first_is; others = c.release_slot.ensures.others; rest = i.invariant.rest } in
-    let at : c.args.from + (i.passed + 1) ≡ place + 1 = omega arith in
     record {
       before_is = c.saturating_sub-over.ensures
           ∙ ap (λ n. n - c.args.keep) (sym (c.sent_through.ensures.sent c.args.from));
       first_is = c.release_slot.ensures.now ∙ i.invariant.first_is;
       done = λ t since less. changed-next step (λ t was is. is + released_at segments c.args.from c.args.keep t ≡ was)
           (λ from. omega (arith, cut, c.release_slot.ensures.at (omega (arith, from, i.invariant.first_is))))
-          i.invariant.done since (omega (arith, less, at));
-      rest = λ t since more. unchanged-next step since (omega (arith, more, at));
+          i.invariant.done since (omega (arith, less));
+      rest = λ t since more. unchanged-next step since (omega (arith, more));
     }
 
 pub returns-clause-totals : goal.returns-clause-totals
