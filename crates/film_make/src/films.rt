@@ -1,6 +1,6 @@
 //! Makes a film, as an MPEG-1 video stream.
 
-ghost use Rattle.std.specs.Prelude.{◌≡◌, ◌++◌, IfOk};
+ghost use Rattle.std.specs.Prelude.{◌≡◌, IfOk};
 ghost use Rattle.film_make.specs.Generator.{words_of};
 ghost use Rattle.film_make.specs.Film.{film_of, pictures_of};
 

@@ -1,12 +1,10 @@
 //! What is true of every generated trace, film and system stream.
 
 ghost use Rattle.std.specs.Prelude.{◌≡◌, ◌≢◌, ℕ, ◌+◌, ◌*◌, ◌%◌, ◌<◌, ◌≤◌, ◌++◌, [], ◌∷◌, List};
-ghost use Rattle.std.specs.Prelude.{decimal};
-ghost use Rattle.std.specs.Prelude.{drop, flat_map, length, take};
+ghost use Rattle.std.specs.Prelude.{decimal, drop, flat_map, length, take};
 ghost use Rattle.std.specs.Int.{IsInRange};
 ghost use Rattle.mpeg_scan.specs.StandardUnits.{backward_vector, forward_vector};
-ghost use Rattle.mpeg_scan.specs.StandardUnits.{picture_coding_type};
-ghost use Rattle.mpeg_scan.specs.StandardUnits.{temporal_reference};
+ghost use Rattle.mpeg_scan.specs.StandardUnits.{picture_coding_type, temporal_reference};
 ghost use Rattle.sys_demux.specs.SystemStreams.{IsSystem};
 ghost use Rattle.film_make.specs.Film.{film_of, picture_of, pictures_of, sequence_and_group};
 ghost use Rattle.film_make.specs.Headers.{IsGroupHeader, IsSequenceHeader, field_of};

@@ -1,7 +1,6 @@
 //! Makes a picture with its headers and slices.
 
-ghost use Rattle.std.specs.Prelude.{◌≡◌, ℕ, ◌+◌, ◌++◌, ◌%◌, ◌<◌, ◌≤◌, ◌==◌, [], if◌then◌else◌};
-ghost use Rattle.std.specs.Prelude.{OnOk};
+ghost use Rattle.std.specs.Prelude.{◌≡◌, ◌+◌, ◌++◌, ◌%◌, ◌<◌, ◌≤◌, ◌==◌, [], if◌then◌else◌, OnOk};
 ghost use Rattle.film_make.specs.Generator.{words_after, words_left};
 ghost use Rattle.film_make.specs.Film.{after_slice, body_lengths, body_of, coding_type, in_bytes};
 ghost use Rattle.film_make.specs.Film.{least_body, picture_fields, picture_header, picture_of};

@@ -1,6 +1,6 @@
 //! Makes a trace: the sizes of pictures, one a line.
 
-ghost use Rattle.std.specs.Prelude.{◌≡◌, ◌++◌, ◌≤◌, IfOk, ◌*◌, ◌+◌, ◌%◌, ◌==◌, [], ◌∷◌};
+ghost use Rattle.std.specs.Prelude.{◌≡◌, ◌++◌, IfOk, ◌*◌, ◌+◌, ◌%◌, ◌==◌, [], ◌∷◌};
 ghost use Rattle.std.specs.Prelude.{if◌then◌else◌, decimal, OnOk};
 ghost use Rattle.film_make.specs.Generator.{words_after, words_left, words_of};
 ghost use Rattle.film_make.specs.Trace.{sizes_of, trace_of};
