@@ -1,6 +1,6 @@
 -- What contracts see of a book, and what its fields keep.
 use Rattle.std.specs.Prelude.{vec_capacity}
-use Rattle.admission.specs.Books.{Journal}
+pub use Rattle.admission.specs.Books.{Journal}
 use Rattle.admission.specs.BookInvariant.{IsBookKept}
 use Rattle.admission.specs.declared.book.Book.TheInside.{Inside}
 

@@ -1,7 +1,6 @@
 //! The book, and its limit of entries.
 
-ghost use Rattle.std.specs.Prelude.{ℕ, ◌≡◌, ◌+◌, ◌^◌, ◌<◌, ◌≤◌, [], min, max, IfOk, IfErr, OnOk};
-ghost use Rattle.std.specs.Prelude.{OnErr};
+ghost use Rattle.std.specs.Prelude.{ℕ, ◌≡◌, ◌+◌, ◌<◌, ◌≤◌, [], min, IfOk, IfErr, OnOk, OnErr};
 ghost use Rattle.plan_cert.specs.PlanSlots.{total_bytes};
 ghost use Rattle.slot_calendar.specs.Calendars.{Represents};
 ghost use Rattle.admission.specs.Machine.{CanHalt, plays_of};
@@ -32,11 +31,9 @@ pub struct Book {
 }
 
 impl Model for Book {
-    ghost use Rattle.admission.specs.Books.{Journal};
+    ghost use Rattle.admission.specs.Inside.{Journal, journal_of, IsBook};
 
     ghost Value = { Journal };
-
-    ghost use Rattle.admission.specs.Inside.{journal_of, IsBook};
 
     ghost view = { journal_of };
 
@@ -46,10 +43,12 @@ impl Model for Book {
 /// How many entries it has and may have; its calendar and its journal are too long for a text.
 impl fmt::Debug for Book {
     fn fmt<W: fmt::Write>(&self, f: &mut fmt::Formatter<W>) -> fmt::Result {
-        f.debug_struct("Book")
-            .field("entries", &self.entries.len())
-            .field("limit", &self.limit)
-            .finish_non_exhaustive()
+        write!(
+            f,
+            "Book {{ entries: {}, limit: {}, .. }}",
+            self.entries.len(),
+            self.limit
+        )
     }
 }
 

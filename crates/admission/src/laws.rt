@@ -1,8 +1,8 @@
 //! Laws of the machine and of its histories.
 
-ghost use Rattle.std.specs.Prelude.{◌≡◌, ◌+◌, ◌<◌, ◌≤◌, ◌++◌, [], ◌∷◌, ℕ, List, All, Some};
-ghost use Rattle.std.specs.Prelude.{◌==◌, filter, count_by, false, length, map, max};
-ghost use Rattle.std.specs.Prelude.{slice_index_or, take, true};
+ghost use Rattle.std.specs.Prelude.{◌≡◌, ◌+◌, ◌<◌, ◌≤◌, ◌++◌, [], ◌∷◌, ℕ, List, All, Some, ◌==◌};
+ghost use Rattle.std.specs.Prelude.{filter, count_by, false, length, map, max, slice_index_or};
+ghost use Rattle.std.specs.Prelude.{take, true};
 ghost use Rattle.plan_cert.specs.declared.Segment.{Segment};
 ghost use Rattle.slot_calendar.specs.Plays.{asked_at, released_at};
 ghost use Rattle.slot_calendar.specs.declared.profiles.CapStep.{CapStep};
@@ -12,8 +12,7 @@ ghost use Rattle.admission.specs.declared.entries.Answer.{Answer};
 ghost use Rattle.admission.specs.declared.entries.Entry.{Entry};
 ghost use Rattle.admission.specs.Books.{places_taken};
 ghost use Rattle.admission.specs.Machine.{State, AdmittedPlay, CanHalt, IsStep, admitted_play};
-ghost use Rattle.admission.specs.Machine.{halted_play};
-ghost use Rattle.admission.specs.Machine.{play_numbered};
+ghost use Rattle.admission.specs.Machine.{halted_play, play_numbered};
 ghost use Rattle.admission.specs.Histories.{IsAdmission, IsHalt, IsLegal, IsStillOpen, IsUnhalted};
 ghost use Rattle.admission.specs.Histories.{booked_after, is_admission, is_halt, latest_asked};
 ghost use Rattle.admission.specs.Histories.{open_count, state_after};

@@ -1,6 +1,6 @@
 //! What each command does to the calendar.
 
-ghost use Rattle.std.specs.Prelude.{◌≡◌, ◌+◌, ◌^◌, ◌<◌, ◌≤◌, ◌++◌, [], ◌∷◌, ℕ, length, vec_len};
+ghost use Rattle.std.specs.Prelude.{◌≡◌, ◌+◌, ◌<◌, ◌≤◌, ◌++◌, [], ◌∷◌, ℕ, length, vec_len};
 ghost use Rattle.std.specs.Prelude.{vec_capacity, if◌then◌else◌, List, IsSomeAnd};
 ghost use Rattle.plan_cert.specs.declared.Segment.{Segment};
 ghost use Rattle.admission.specs.Machine.{State, CanHalt, IsAnswer, IsNeverOverbooked, next_state};

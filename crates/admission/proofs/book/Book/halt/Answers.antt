@@ -11,23 +11,16 @@ use Rattle.admission.proofs.book.Book.halt.Goals as goal
 
 pub overflow_sub-self : goal.overflow_sub-self
 overflow_sub-self c =
-    let book = c.self.inside in
-    let C : Journal → Type 0 = λ j. CanHalt (state_after j.entries) c.args.number c.args.keep in
-    let can : CanHalt (state_after book.entries.items) c.args.number c.args.keep =
-    subst C (sym c.self.view_is) c.requires in
-    omega (
-      arith,
-      open-halted
-          (state_after book.entries.items) 0 c.args.number c.args.keep can,
-      c.self.invariant.count_is,
-    )
+    let can = subst (λ (j : Journal). CanHalt (state_after j.entries) c.args.number c.args.keep) (sym c.self.view_is)
+    c.requires in
+    let fewer = open-halted (state_after c.self.inside.entries.items) 0 c.args.number c.args.keep can in
+    omega (arith, fewer, c.self.invariant.count_is)
 
 pub note-requires : goal.note-requires
 note-requires c =
     let book = c.self.inside in
-    let C : Journal → Type 0 = λ j. CanHalt (state_after j.entries) c.args.number c.args.keep in
-    let can : CanHalt (state_after book.entries.items) c.args.number c.args.keep =
-    subst C (sym c.self.view_is) c.requires in
+    let can = subst (λ (j : Journal). CanHalt (state_after j.entries) c.args.number c.args.keep) (sym c.self.view_is)
+    c.requires in
     let items : length book.entries.items ≡ vec_len book.entries =
     sym (ap length c.as_slice.ensures.value) ∙ c.as_slice.ensures.len in
     omega (
@@ -42,8 +35,8 @@ pub invariant_of-self : goal.invariant_of-self
 invariant_of-self c =
     let book = c.self.inside in
     let state = state_after book.entries.items in
-    let C : Journal → Type 0 = λ j. CanHalt (state_after j.entries) c.args.number c.args.keep in
-    let can : CanHalt state c.args.number c.args.keep = subst C (sym c.self.view_is) c.requires in
+    let can = subst (λ (j : Journal). CanHalt (state_after j.entries) c.args.number c.args.keep) (sym c.self.view_is)
+    c.requires in
     let fewer = open-halted state (length book.entries.items) c.args.number c.args.keep can in
     let F : List Entry → Type 0 =
     λ l. MatchesState c.release_play.new.calendar
@@ -61,9 +54,8 @@ invariant_of-self c =
 pub returns-clause-noted : goal.returns-clause-noted
 returns-clause-noted c =
     let book = c.self.inside in
-    let C : Journal → Type 0 = λ j. CanHalt (state_after j.entries) c.args.number c.args.keep in
-    let can : CanHalt (state_after book.entries.items) c.args.number c.args.keep =
-    subst C (sym c.self.view_is) c.requires in
+    let can = subst (λ (j : Journal). CanHalt (state_after j.entries) c.args.number c.args.keep) (sym c.self.view_is)
+    c.requires in
     let new : Journal =
     record { steps = c.release_play.new.calendar.steps; limit = book.limit; entries = c.note.new.entries.items } in
     let P : Journal → Type 0 = λ j. IsNoted j c.args.maker (Halt c.args.number c.args.keep) c.note.result new in
