@@ -2,8 +2,7 @@
 //! into the link's calendar, with the first slot without room for each earlier start.
 #![tactic(auto)]
 
-ghost use Rattle.std.specs.Prelude.{◌≡◌, ◌+◌, ◌^◌, ◌<◌, ◌≤◌, None, [], IfOk, MatchOption, length};
-ghost use Rattle.std.specs.Prelude.{vec_len, vec_capacity};
+ghost use Rattle.std.specs.Prelude.{◌≡◌, ◌+◌, ◌^◌, ◌<◌, ◌≤◌, None, [], IfOk, length, vec_capacity};
 ghost use Rattle.early_start.specs.StartSearch.{AreRefusalsIn, IsOfferIn, IsStartIn};
 
 pub mod laws;
