@@ -1,6 +1,6 @@
 //! Finds the end that a place belongs to.
 
-ghost use Rattle.std.specs.Prelude.{◌≡◌, ◌+◌, ◌<◌, ◌≤◌, ℕ, List, length, slice_index};
+ghost use Rattle.std.specs.Prelude.{◌<◌, ◌≤◌, ℕ, length, slice_index};
 ghost use Rattle.std.specs.List.Sorted.{IsNonDecreasing};
 
 /// How many of these ends, which don't fall, lie below a place.

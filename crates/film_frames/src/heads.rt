@@ -1,6 +1,6 @@
 //! The bytes of a report, and the headers before a payload.
 
-ghost use Rattle.std.specs.Prelude.{◌≡◌, ◌+◌, ◌++◌, ◌≤◌, ◌/◌, ◌%◌, ◌∷◌, take};
+ghost use Rattle.std.specs.Prelude.{◌≡◌, ◌+◌, ◌≤◌, ◌/◌, ◌%◌, ◌∷◌, take};
 ghost use Rattle.rtp_pack.specs.Heads.{head_bytes};
 ghost use Rattle.rtp_pack.specs.Reports.{report_bytes};
 ghost use Rattle.film_frames.specs.FramedRuns.{interleaved_block};

@@ -10,8 +10,7 @@ ghost use Rattle.film_frames.specs.Laws.{HaveSizes, OfRuns, ReportsHaveSessionCo
 ghost use Rattle.film_frames.specs.Laws.{run_frames};
 ghost use Rattle.film_frames.specs.Pieces.{frames_in, wire_size};
 ghost use Rattle.film_frames.specs.FramedRuns.{FramedRun, HaveEnded, count_ended, run_of};
-ghost use Rattle.film_frames.specs.FramedRuns.{run_pieces};
-ghost use Rattle.film_frames.specs.FramedRuns.{pieces_in};
+ghost use Rattle.film_frames.specs.FramedRuns.{run_pieces, pieces_in};
 ghost use Rattle.film_frames.specs.Tracks.{framed_bytes};
 
 /// The sizes of all units of a film on the wire, and so those of any range of them, add up to at

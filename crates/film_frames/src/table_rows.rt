@@ -2,7 +2,7 @@
 
 ghost use Rattle.std.specs.Prelude.{◌≡◌, ◌+◌, ◌^◌, ◌<◌, ◌≤◌, ℕ, List, slice_get, Some};
 ghost use Rattle.mpeg_scan.specs.declared.units.Unit.{Unit as PictureUnit};
-ghost use Rattle.film_frames.specs.Pieces.{unit_of, wire_of};
+ghost use Rattle.film_frames.specs.Pieces.{unit_of};
 ghost use Rattle.film_frames.specs.Tables.{IsFrameRow, IsRow, IsSound, row_piece};
 
 use crate::pieces::Piece;

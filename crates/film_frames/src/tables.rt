@@ -1,8 +1,8 @@
 //! The table of the reports and frames of a film, which gives their places.
 
 ghost use Rattle.std.specs.Prelude.{◌≡◌, ◌+◌, ◌-◌, ◌*◌, ◌^◌, ◌<◌, ◌≤◌, ◌++◌, ℕ, List, [], ◌∷◌};
-ghost use Rattle.std.specs.Prelude.{length, take, drop, slice_index, slice_index_or};
-ghost use Rattle.std.specs.Prelude.{slice_get, Some, IfOk, OnOk};
+ghost use Rattle.std.specs.Prelude.{length, take, drop, slice_index, slice_index_or, slice_get};
+ghost use Rattle.std.specs.Prelude.{Some, IfOk, OnOk};
 ghost use Rattle.mpeg_scan.specs.declared.units.Unit.{Unit as PictureUnit};
 ghost use Rattle.mpeg_scan.specs.declared.films.Film.{Film};
 ghost use Rattle.rtp_pack.specs.Packets.{OfUnit, unit_packets};
@@ -10,8 +10,7 @@ ghost use Rattle.film_frames.specs.declared.pieces.Piece.{Piece};
 ghost use Rattle.film_frames.specs.Pieces.{film_pieces, front_pieces, unit_of, unit_reports};
 ghost use Rattle.film_frames.specs.Pieces.{wire_size};
 ghost use Rattle.film_frames.specs.Tables.{AreFirsts, HasPieces, HasRoom, HasUnit, IsSound};
-ghost use Rattle.film_frames.specs.Tables.{IsTable, IsTableOf};
-ghost use Rattle.film_frames.specs.Tables.{with_report};
+ghost use Rattle.film_frames.specs.Tables.{IsTable, IsTableOf, with_report};
 
 use crate::pieces::{Piece, wire_of};
 use crate::table_rows::Row;
