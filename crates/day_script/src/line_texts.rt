@@ -3,10 +3,9 @@
 ghost use Rattle.std.specs.Prelude.{◌≡◌, ◌++◌, OnOk, codes, flat_map};
 ghost use Rattle.vod_base.specs.Fields.{field};
 ghost use Rattle.day_script.specs.LineTexts.{entry_words, fair_text, fault_text, fault_words};
-ghost use Rattle.day_script.specs.LineTexts.{full_text};
-ghost use Rattle.day_script.specs.LineTexts.{offer_text, slot_text, slot_words, start_words};
-ghost use Rattle.day_script.specs.LineTexts.{state_text};
-ghost use Rattle.day_script.specs.LineTexts.{sum_words, tried_text, turn_words};
+ghost use Rattle.day_script.specs.LineTexts.{full_text, offer_text, slot_text, slot_words};
+ghost use Rattle.day_script.specs.LineTexts.{start_words, state_text, sum_words, tried_text};
+ghost use Rattle.day_script.specs.LineTexts.{turn_words};
 
 use crate::fair_totals::{EntryCounts, FairTotals};
 use admission::Full;

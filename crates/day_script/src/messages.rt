@@ -4,8 +4,7 @@ ghost use Rattle.std.specs.Prelude.{◌≡◌, IfSome};
 ghost use Rattle.std.specs.Str.{bytes_eq};
 ghost use Rattle.day_script.specs.TextLines.{texts_at};
 ghost use Rattle.day_script.specs.MessageWords.{ArePlayParamsInRange, IsInRange, asked_in, kind_in};
-ghost use Rattle.day_script.specs.MessageWords.{client_in};
-ghost use Rattle.day_script.specs.MessageWords.{pair_in, play_in, offer_in, message_in};
+ghost use Rattle.day_script.specs.MessageWords.{client_in, pair_in, play_in, offer_in, message_in};
 
 use crate::scripts::{CLIENTS, SourceKind};
 use early_start::MAX_WAIT;

@@ -2,19 +2,16 @@
 
 ghost use Rattle.std.specs.Prelude.{◌≡◌, ◌+◌, ◌<◌, ◌≤◌, ◌++◌, ◌∷◌, [], false, true, length, All};
 ghost use Rattle.std.specs.Prelude.{IfOk, IfErr, IfSome, IfNone, None, OnOk, MatchOption};
-ghost use Rattle.std.specs.Prelude.{slice_index_or};
 ghost use Rattle.vod_base.specs.Names.{good_name};
-ghost use Rattle.day_script.specs.Scripts.{AreClients, IsClient};
+ghost use Rattle.day_script.specs.Scripts.{AreClients, IsClient, AreLines, StandsAfter};
+ghost use Rattle.day_script.specs.Scripts.{latest_slot, slot_after};
 ghost use Rattle.day_script.specs.TextLines.{texts_at};
 ghost use Rattle.day_script.specs.MessageWords.{IsInRange};
-ghost use Rattle.day_script.specs.Scripts.{AreLines, StandsAfter, latest_slot, slot_after};
 ghost use Rattle.day_script.specs.ScriptReading.{HasGoodName, HasPlaces, IsDraft, IsLineTaken};
-ghost use Rattle.day_script.specs.ScriptReading.{IsPlaceOf};
-ghost use Rattle.day_script.specs.ScriptReading.{IsRoster, IsScript, IsTextRefused};
-ghost use Rattle.day_script.specs.ScriptReading.{known_place, line_read, name_as, named_in, names_of};
-ghost use Rattle.day_script.specs.ScriptReading.{nothing_read, reading_of, source_in, with_line};
-ghost use Rattle.day_script.specs.ScriptReading.{with_name};
-ghost use Rattle.day_script.specs.ScriptReading.{with_message};
+ghost use Rattle.day_script.specs.ScriptReading.{IsPlaceOf, IsRoster, IsScript, IsTextRefused};
+ghost use Rattle.day_script.specs.ScriptReading.{known_place, line_read, name_as, named_in};
+ghost use Rattle.day_script.specs.ScriptReading.{names_of, nothing_read, reading_of, source_in};
+ghost use Rattle.day_script.specs.ScriptReading.{with_line, with_name, with_message};
 
 use crate::line_split::{first_line, split_words};
 use crate::messages::{Message, PlayParams, message_in};

@@ -2,15 +2,13 @@ use Rattle.std.proofs.Common.{◌≡◌, ◌≤◌, [], length, drop, ◌∙◌,
 use Rattle.std.proofs.lemmas.List.{length-drop, take_all}
 use Rattle.day_script.specs.TextLines.{lines_of_script}
 use Rattle.day_script.specs.ScriptReading.{lines_read, nothing_read}
-use Rattle.day_script.proofs.LineReadLemmas.{NextLine, next-line, read-next, bad-next}
+use Rattle.day_script.proofs.LineReadLemmas.{bad-next, next-line, read-next}
 use Rattle.day_script.proofs.script_reader.read_script.Goals as goal
 
 pub returns-then-number-eq-MAX_LINES-clause-refused : goal.returns-then-number-eq-MAX_LINES-clause-refused
 returns-then-number-eq-MAX_LINES-clause-refused c =
     let inv = c.loop-line.invariant in
-    let at : NextLine (lines_of_script c.args.text.now) c.loop-line.number c.in-Some.line.now
-    (lines_of_script c.in-Some.next.now) =
-    next-line (lines_of_script c.args.text.now) c.loop-line.number c.in-Some.line.now
+    let at = next-line (lines_of_script c.args.text.now) c.loop-line.number c.in-Some.line.now
     (lines_of_script c.in-Some.next.now) (inv.left ∙ c.in-Some.ensures.some) in
     bad-next at inv.few inv.read (inl (omega arith))
 
@@ -18,9 +16,7 @@ pub returns-then-not-stands-clause-refused : goal.returns-then-not-stands-clause
 returns-then-not-stands-clause-refused c =
     let stands : c.in_ok-stands.stands ≡ false = c.if-not-stands.true in
     let inv = c.loop-line.invariant in
-    let at : NextLine (lines_of_script c.args.text.now) c.loop-line.number c.in-Some.line.now
-    (lines_of_script c.in-Some.next.now) =
-    next-line (lines_of_script c.args.text.now) c.loop-line.number c.in-Some.line.now
+    let at = next-line (lines_of_script c.args.text.now) c.loop-line.number c.in-Some.line.now
     (lines_of_script c.in-Some.next.now) (inv.left ∙ c.in-Some.ensures.some) in
     bad-next at inv.few inv.read (inr (rw stands at c.in_ok-stands.ensures.taken))
 
@@ -28,9 +24,7 @@ pub loop-line-preserved : goal.loop-line-preserved
 loop-line-preserved c =
     let stands : c.in_ok-stands.stands ≡ true = c.if-not-stands.false in
     let inv = c.loop-line.invariant in
-    let at : NextLine (lines_of_script c.args.text.now) c.loop-line.number c.in-Some.line.now
-    (lines_of_script c.in-Some.next.now) =
-    next-line (lines_of_script c.args.text.now) c.loop-line.number c.in-Some.line.now
+    let at = next-line (lines_of_script c.args.text.now) c.loop-line.number c.in-Some.line.now
     (lines_of_script c.in-Some.next.now) (inv.left ∙ c.in-Some.ensures.some) in
     record {
       few = omega arith;
