@@ -42,28 +42,16 @@ pub record IsPlayable (sizes : List ℕ) (playback : Playback) (run : Run) : Typ
 pub limits : {sizes : List ℕ} {playback : Playback} {run : Run} → IsPlayable sizes playback run
     → IsWithinLimits (rest_sizes sizes run) (timing_of playback run)
 limits {sizes} {playback} {run} can =
-    let plays = can.plays in
     let is = can.is in
-    let fits = can.fits in
-    let few = can.few in
-    let small = can.small in
+    let rest = rest_sizes sizes run in
+    let timing = timing_of playback run in
     let count = length-between sizes run.from_unit run.end_unit is.within in
     let all = total-of-rest sizes playback run is in
     let most = bytes-most sizes run.first_unit run.end_unit (omega (arith, is.order, is.rest)) in
-    record {
-      some_picture_units = plays.some_picture_units;
-      picture_units_fit = plays.picture_units_fit;
-      some_slot_units = plays.some_slot_units;
-      slot_units_fit = plays.slot_units_fit;
-      few_pictures = omega (arith, count, is.within, few);
-      delay_fits = plays.delay_fits;
-      some_buffer = plays.some_buffer;
-      buffer_fits = plays.buffer_fits;
-      total_fits = omega (arith, all, most, small);
-      played_was_sent = is.ahead;
-      sent_of_total = omega (arith, all, is.whole);
-      sent_fits_buffer = fits;
-    }
+    let few : length rest ≤ MAX_FILM_PICTURES = omega (arith, count, is.within, can.few) in
+    let small : total_of rest timing ≤ MAX_BYTES = omega (arith, all, most, can.small) in
+    let within : run.sent ≤ total_of rest timing = omega (arith, all, is.whole) in
+    assumption (can, can.plays, is, few, small, within)
 
 -- the curves as lists
 pub low-is : (sizes : List ℕ) (timing : Timing) (curves : Curves) → AreFilmCurves sizes timing curves

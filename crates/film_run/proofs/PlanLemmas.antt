@@ -16,14 +16,7 @@ pub sending-limits : (sizes : List ℕ) (playback : Playback) (run : Run) (plan 
     → IsSending sizes playback run plan
     → IsWithinLimits (rest_sizes sizes run) (timing_of playback run)
 sending-limits sizes playback run plan is =
-    let can = is.can_play in
-    limits (record {
-      plays = can.playback_is;
-      is = can.run_is;
-      fits = can.fits;
-      few = can.sizes_are.few;
-      small = can.sizes_are.small;
-    })
+    limits {sizes = sizes} {playback = playback} {run = run} (assumption (is.can_play, is.can_play.sizes_are))
 
 pub sending-keeps : (sizes : List ℕ) (playback : Playback) (run : Run) (plan : List Segment)
     → IsSending sizes playback run plan

@@ -124,17 +124,8 @@ halted-plays sizes playback run plan is = λ last keep left halt its.
     ] in
     let play : HaltedPlay =
     record { sizes = sizes; playback = playback; run = run; plan = plan; last = last; keep = keep } in
-    let h : IsHalting play = record {
-      can = record {
-        plays = can.playback_is;
-        is = can.run_is;
-        fits = can.fits;
-        few = can.sizes_are.few;
-        small = can.sizes_are.small;
-      };
-      planned = is.plan_is;
-      halt = halt;
-    } in
+    let h : IsHalting play =
+    record { can = assumption (can, can.sizes_are); planned = is.plan_is; halt = halt } in
     let whole = left-run h its inside within in
     record { sizes_are = can.sizes_are; playback_is = can.playback_is; run_is = whole.0; fits = whole.1 }
 

@@ -5,9 +5,8 @@ ghost use Rattle.mpeg_scan.specs.declared.films.Film.{Film as FilmIs};
 ghost use Rattle.film_run.specs.declared.runs.Run.{Run};
 ghost use Rattle.film_run.specs.Plans.{IsBestPlanOf};
 ghost use Rattle.film_run.specs.Laws.{AreInTime, AreUsedOnTime, CountsUsed, DoesFit};
-ghost use Rattle.film_run.specs.Laws.{ContinuesThePlan};
-ghost use Rattle.film_run.specs.Laws.{IsOnlyPlan, LeavesOne, LeavesRun, OfSendings};
-ghost use Rattle.film_run.specs.Laws.{SharesBoundaries};
+ghost use Rattle.film_run.specs.Laws.{ContinuesThePlan, IsOnlyPlan, LeavesOne, LeavesRun};
+ghost use Rattle.film_run.specs.Laws.{OfSendings, SharesBoundaries};
 ghost use Rattle.film_run.specs.SeekLaws.{IsSeekResult};
 ghost use Rattle.film_run.specs.Seeks.{IsRequestedRange};
 

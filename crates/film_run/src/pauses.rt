@@ -1,8 +1,7 @@
 //! What a halt leaves of a run.
 
-ghost use Rattle.std.specs.Prelude.{◌≡◌, ◌+◌, ◌-◌, ◌<◌, ◌≤◌, ℕ, length, None, Some};
-ghost use Rattle.plan_cert.specs.PlanSlots.{sum_through, total_bytes, total_slots};
-ghost use Rattle.plan_cert.specs.Plan.{IsPlan};
+ghost use Rattle.std.specs.Prelude.{◌≡◌, ◌+◌, ◌-◌, ◌<◌, ◌≤◌, None, Some};
+ghost use Rattle.plan_cert.specs.PlanSlots.{total_bytes, total_slots};
 ghost use Rattle.wire_curve.specs.FilmCurves.{due_slot};
 ghost use Rattle.film_run.specs.Runs.{Fits, IsRun};
 ghost use Rattle.film_run.specs.Plans.{IsPlanOf, IsPlayback, timing_of};

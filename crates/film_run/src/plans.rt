@@ -1,10 +1,8 @@
 //! The plan of a play.
 
-ghost use Rattle.std.specs.Prelude.{◌≡◌, ◌+◌, ◌-◌, ◌<◌, ◌≤◌, length, IfOk, IfErr, OnOk};
+ghost use Rattle.std.specs.Prelude.{◌≡◌, ◌+◌, ◌-◌, ◌<◌, ◌≤◌, length, IfOk, IfErr};
 ghost use Rattle.plan_cert.specs.PlanSlots.{total_bytes};
-ghost use Rattle.wire_curve.specs.FilmCurves.{AreFilmCurves};
-ghost use Rattle.wire_curve.specs.CurveFaults.{IsAccepted, IsRefused};
-ghost use Rattle.wire_curve.specs.SoundCurves.{AreSound};
+ghost use Rattle.wire_curve.specs.CurveFaults.{IsRefused};
 ghost use Rattle.film_run.specs.Runs.{Fits, IsRun, bytes_between};
 ghost use Rattle.film_run.specs.Plans.{IsBestPlanOf, IsPlanOf, IsPlayback, rest_sizes, timing_of};
 

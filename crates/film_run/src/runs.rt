@@ -1,7 +1,7 @@
 //! Runs: units that are sent, and what was sent and played of them.
 
-ghost use Rattle.std.specs.Prelude.{◌≡◌, ◌^◌, ◌≤◌, length, MatchOption};
-ghost use Rattle.film_run.specs.Runs.{IsNewRun, IsRun};
+ghost use Rattle.std.specs.Prelude.{◌≡◌, length, MatchOption};
+ghost use Rattle.film_run.specs.Runs.{IsNewRun};
 
 use crate::units::Units;
 

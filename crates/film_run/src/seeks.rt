@@ -5,9 +5,8 @@ ghost use Rattle.std.specs.Prelude.{◌≡◌, ◌^◌, ◌<◌, ◌≤◌, ℕ,
 ghost use Rattle.std.specs.Prelude.{MatchOption};
 ghost use Rattle.film_run.specs.Runs.{IsFilmRun};
 ghost use Rattle.film_run.specs.Seeks.{BeginsBy, HasNothing, IsAfter, IsRequestedRange, IsBefore};
-ghost use Rattle.film_run.specs.Seeks.{IsEnd};
-ghost use Rattle.film_run.specs.Seeks.{IsGroupBy};
-ghost use Rattle.film_run.specs.Seeks.{IsGroupFrom, IsPlaceAfter, IsReversed, StartsGroup};
+ghost use Rattle.film_run.specs.Seeks.{IsEnd, IsGroupBy, IsGroupFrom, IsPlaceAfter, IsReversed};
+ghost use Rattle.film_run.specs.Seeks.{StartsGroup};
 
 use crate::runs::{Run, new_run};
 use mpeg_scan::laws::{law_film_is_well_formed, law_units_tile_the_film};

@@ -10,13 +10,7 @@ use Rattle.film_run.proofs.pauses.run_after.Goals as goal
 pub loop-left-init : goal.loop-left-init
 loop-left-init g c = record {
   halting = record {
-    can = record {
-      plays = c.requires.playback;
-      is = c.requires.run;
-      fits = c.requires.fits;
-      few = c.count-count.ensures.few;
-      small = c.count-count.ensures.small;
-    };
+    can = assumption (c.requires, c.count-count.ensures);
     planned = c.requires.plan;
     halt = c.requires.halt;
   };
@@ -73,12 +67,8 @@ returns g c =
     ≤ due_slot (timing_of c.args.playback.now c.args.run.now)
     (c.loop-left.left.from_unit - c.args.run.now.from_unit) =
     omega (arith, c.due_slot.ensures, c.loop-left-test.false) in
-    let to : IsPlayedTo c.args.playback.now c.args.run.now c.loop-left.left.from_unit c.stop_slot-stop.result = record {
-      not_back = c.loop-left.invariant.from;
-      within = c.loop-left.invariant.rest;
-      used = c.loop-left.invariant.used;
-      unused = unused;
-    } in
+    let to : IsPlayedTo c.args.playback.now c.args.run.now c.loop-left.left.from_unit c.stop_slot-stop.result =
+    assumption (c.loop-left.invariant, unused) in
     let left : IsRemainingRun sizes c.args.playback.now c.args.run.now c.args.plan.now c.args.last c.args.keep
     (record c.loop-left.left { sent = c.loop-left.left.sent + c.args.keep }) = record {
       first_is = c.loop-left.invariant.first_is;

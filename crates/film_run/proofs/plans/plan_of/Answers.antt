@@ -6,13 +6,7 @@ use Rattle.film_run.proofs.plans.plan_of.Goals.{After-count-count}
 
 playable : (g : _) (c : After-count-count g)
     → IsPlayable (g.U.Units.sizes c.args.units.now) c.args.playback.now c.args.run.now
-playable g c = record {
-  plays = c.requires.playback;
-  is = c.requires.run;
-  fits = c.requires.fits;
-  few = c.count-count.ensures.few;
-  small = c.count-count.ensures.small;
-}
+playable g c = assumption (c.requires, c.count-count.ensures)
 
 pub film_curves-requires : goal.film_curves-requires
 film_curves-requires g c =

@@ -4,8 +4,4 @@ use Rattle.film_run.proofs.seeks.group_from.Goals as goal
 pub returns : goal.returns
 returns c =
     group-from c.requires.few c.requires.fits c.units_after.ensures.whole c.end_place-place.ensures
-    (record {
-      from = c.group_after.ensures.after;
-      group = c.group_after.ensures.group;
-      least = c.group_after.ensures.first;
-    })
+    (assumption c.group_after.ensures)

@@ -10,11 +10,7 @@ returns-then-units-picture_units-clause-found c =
 pub returns-clause-found : goal.returns-clause-found
 returns-clause-found c =
     group-by c.requires.few c.requires.some c.requires.fits c.units_before-begin.ensures.whole
-    (record {
-      starts = c.group_before.ensures.group;
-      within = c.group_before.ensures.before;
-      greatest = c.group_before.ensures.last;
-    })
+    (assumption c.group_before.ensures)
 
 pub returns-clause-rest : goal.returns-clause-rest
 returns-clause-rest c = λ by_then.

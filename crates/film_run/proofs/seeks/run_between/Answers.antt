@@ -13,13 +13,7 @@ returns-clause-asked c =
       some = c.end_of-end_unit.ensures.after;
       within = c.end_of-end_unit.ensures.within;
     })
-    (record {
-      first_is = c.new_run.ensures.first;
-      end_is = c.new_run.ensures.end;
-      from_is = c.new_run.ensures.from;
-      sent_is = c.new_run.ensures.sent;
-      played_is = c.new_run.ensures.played;
-    })
+    (assumption c.new_run.ensures)
 
 pub returns-clause-run : goal.returns-clause-run
 returns-clause-run c =
