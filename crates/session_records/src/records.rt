@@ -1,8 +1,7 @@
 //! What a session notes for the connection's report: the station's answers, the plays and the
 //! offers.
 
-ghost use Rattle.std.specs.Prelude.{◌≡◌, ◌+◌, ◌-◌, ◌≤◌, ◌++◌, [], ◌∷◌, IfOk, OnOk, IsOk};
-ghost use Rattle.std.specs.Prelude.{None};
+ghost use Rattle.std.specs.Prelude.{◌≡◌, ◌+◌, ◌-◌, ◌≤◌, ◌++◌, [], ◌∷◌, IfOk, OnOk, IsOk, None};
 ghost use Rattle.session_records.specs.RecordLists.{IsSameLists};
 
 use crate::notes::{Notes, OfferNote, PlayNote, Receipt};
