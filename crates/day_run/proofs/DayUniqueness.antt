@@ -111,6 +111,12 @@ one-planned {ask} pair (inr a) (inr b) =
     (with_play ask.client ask.rest ask.plan (length old.entries) x old.states) old pair.one.new pair.one.text in
     one-noted pair (subst N same a.noted) b.noted
 
+-- a run whose pictures have no curves has no plan
+faulty-planned : {rest : Rest} {old new : DayState} {text : List ℕ} {plan : List Segment} → IsFaulty rest old new text
+    → IsPlanOf rest.sizes rest.playback rest.run plan → ⊥
+faulty-planned {rest} faulty planned = fault-apart (rest_sizes rest.sizes rest.run)
+    (timing_of rest.playback rest.run) faulty.fault faulty.fault_is planned.accepted
+
 one-fault : {rest : Rest} (pair : OutcomePair) → IsFaulty rest pair.old pair.one.new pair.one.text
     → IsFaulty rest pair.old pair.other.new pair.other.text → IsOne pair
 one-fault {rest} pair a b =
@@ -129,12 +135,8 @@ one-asked : {c : ℕ} {rest : Rest} (pair : OutcomePair) → IsSoundIfAny rest
     → IsAsked pair.link c rest pair.old pair.one.new pair.one.text
     → IsAsked pair.link c rest pair.old pair.other.new pair.other.text → IsOne pair
 one-asked pair own (inl a) (inl b) = one-fault pair a b
-one-asked {rest} pair own (inl a) (inr b) =
-    absurd (fault-apart (rest_sizes rest.sizes rest.run)
-    (timing_of rest.playback rest.run) a.fault a.fault_is b.plan_is.accepted)
-one-asked {rest} pair own (inr a) (inl b) =
-    absurd (fault-apart (rest_sizes rest.sizes rest.run)
-    (timing_of rest.playback rest.run) b.fault b.fault_is a.plan_is.accepted)
+one-asked pair own (inl a) (inr b) = absurd (faulty-planned a b.plan_is)
+one-asked pair own (inr a) (inl b) = absurd (faulty-planned b a.plan_is)
 one-asked {c} {rest} pair own (inr a) (inr b) =
     let D : List Segment → Type 0 =
     λ p. IsFullOrAnswered pair.link (record { client = c; rest = rest; plan = p }) pair.old pair.one.new
@@ -202,12 +204,8 @@ one-offer : {rest : Rest} {wait : ℕ} (pair : OutcomePair) → IsSoundIfAny res
     → IsOfferLine pair.link rest wait pair.old pair.one.new pair.one.text
     → IsOfferLine pair.link rest wait pair.old pair.other.new pair.other.text → IsOne pair
 one-offer pair own (inl a) (inl b) = one-fault pair a b
-one-offer {rest} pair own (inl a) (inr b) =
-    absurd (fault-apart (rest_sizes rest.sizes rest.run)
-    (timing_of rest.playback rest.run) a.fault a.fault_is b.plan_is.accepted)
-one-offer {rest} pair own (inr a) (inl b) =
-    absurd (fault-apart (rest_sizes rest.sizes rest.run)
-    (timing_of rest.playback rest.run) b.fault b.fault_is a.plan_is.accepted)
+one-offer pair own (inl a) (inr b) = absurd (faulty-planned a b.plan_is)
+one-offer pair own (inr a) (inl b) = absurd (faulty-planned b a.plan_is)
 one-offer {rest} pair own (inr a) (inr b) =
     let old = pair.old in
     let booked = booked_in (state_after old.entries) in

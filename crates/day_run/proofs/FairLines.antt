@@ -72,21 +72,8 @@ all-counted [] all = record { plays = refl; halts = refl }
 all-counted (e ∷ entries) all =
     let later = all-counted entries all.1 in
     record {
-      plays = omega (
-        arith,
-        all.0.play,
-        later.plays,
-        count-cons (λ (e : Entry). is_admission e.answer) e entries,
-        count-cons (λ (e : Entry). is_overflow e.answer) e entries,
-        count-cons (λ (e : Entry). is_play e.command) e entries,
-      );
-      halts = omega (
-        arith,
-        all.0.halt,
-        later.halts,
-        count-cons (λ (e : Entry). is_halted e.answer) e entries,
-        count-cons (λ (e : Entry). is_halt e.command) e entries,
-      );
+      plays = simp count-cons (omega (arith, all.0.play, later.plays));
+      halts = simp count-cons (omega (arith, all.0.halt, later.halts));
     }
 
 pub entry-counts : {steps : List CapStep} (journal : List Entry) → IsLegal steps journal → open_count journal ≡ 0

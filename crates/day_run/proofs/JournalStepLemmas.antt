@@ -263,17 +263,11 @@ pub day-noted : {ys : List Entry} (day : DayMachine) → IsDayMachine day → En
     → IsSoundDay day.slot_units day.heard ys day.clients.items
 day-noted day sound noted =
     subst (λ (l : List Entry). IsSoundDay day.slot_units day.heard l day.clients.items) (sym noted.entries_are)
-    (record {
-      count = sound.count;
-      some_slot_units = sound.some_slot_units;
-      slot_units_fit = sound.slot_units_fit;
-      heard_fits = sound.heard_fits;
-      now_heard = noted.now;
-      going = sound.going;
-      undone = sound.undone;
-      timed = sound.timed;
-      booked = booked-more day.book.entries day.clients.items noted.e noted.none sound.booked;
-    })
+    (assumption (
+      sound,
+      noted.now,
+      booked-more day.book.entries day.clients.items noted.e noted.none sound.booked,
+    ))
 
 -- the entry of a client's play, and the play
 pub record PlayEntered (day : DayMachine) (ys : List Entry) (c : ℕ) (play : ClientPlay) : Type 0 where

@@ -1,16 +1,11 @@
 //! A client of a day: what it plays, and how far it has come.
 
 ghost use Rattle.std.specs.Prelude.{◌≡◌, ◌+◌, ◌-◌, ◌≤◌, ◌<◌, ℕ, List, false, IfSome, IfNone};
-ghost use Rattle.std.specs.Prelude.{OnSome, IsTrue};
-ghost use Rattle.plan_cert.specs.PlanSlots.{total_bytes};
+ghost use Rattle.std.specs.Prelude.{OnSome};
 ghost use Rattle.pacer.specs.PacerStates.{IsPacerState, is_done, after_step};
 ghost use Rattle.admission.specs.declared.entries.Entry.{Entry};
-ghost use Rattle.film_run.specs.Plans.{IsPlanOf};
-ghost use Rattle.film_run.specs.Pauses.{IsHalt};
-ghost use Rattle.film_frames.specs.Tracks.{IsBoundary};
-ghost use Rattle.day_run.specs.MediaPieces.{media_pieces, media_sizes};
 ghost use Rattle.day_run.specs.Clients.{IsBooked, IsGoing, IsHaltOf, IsPauseOf, IsPlaying, IsQuiet};
-ghost use Rattle.day_run.specs.Clients.{IsRest, IsStep, IsTimed, IsUndone, IsUnpaused};
+ghost use Rattle.day_run.specs.Clients.{IsStep, IsTimed, IsUndone, IsUnpaused};
 ghost use Rattle.day_run.specs.declared.clients.Client.TheVariants.{Paused};
 ghost use Rattle.day_run.specs.Clients.{after_open, halt_for, halts_of, play_of, state_after_halt};
 ghost use Rattle.day_run.specs.Clients.{state_for, state_of};

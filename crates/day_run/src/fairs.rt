@@ -1,21 +1,18 @@
 //! A large day from a number.
 
-ghost use Rattle.std.specs.Prelude.{◌≡◌, ◌+◌, ◌*◌, ◌^◌, ◌≤◌, ◌<◌, ◌%◌, List, false, if◌then◌else◌};
+ghost use Rattle.std.specs.Prelude.{◌≡◌, ◌+◌, ◌^◌, ◌≤◌, ◌<◌, ◌%◌, List, false, if◌then◌else◌};
 ghost use Rattle.std.specs.Prelude.{length, map, IfOk, OnOk};
 ghost use Rattle.film_make.specs.Generator.{words_after, words_left};
-ghost use Rattle.film_run.specs.Units.{AreUnitSizes};
 ghost use Rattle.admission.specs.declared.entries.Entry.{Entry};
 ghost use Rattle.admission.specs.Books.{places_taken};
 ghost use Rattle.admission.specs.Histories.{IsLegal};
 ghost use Rattle.day_run.specs.BookingBalance.{IsReady};
 ghost use Rattle.report.specs.JournalTexts.{journal_text};
 ghost use Rattle.day_run.specs.Days.{IsPlayLine, first_moment, rest_at, state_at};
-ghost use Rattle.day_run.specs.FairDays.{IsDone, IsFair, after_traces, at_later};
-ghost use Rattle.day_run.specs.FairDays.{entry_counts_of, is_full_line, line_drawn, traces_drawn};
-ghost use Rattle.day_run.specs.FairDays.{words_for};
+ghost use Rattle.day_run.specs.FairDays.{IsDone, IsFair, after_traces, at_later, entry_counts_of};
+ghost use Rattle.day_run.specs.FairDays.{is_full_line, line_drawn, traces_drawn, words_for};
 ghost use Rattle.day_run.specs.FairProgress.{AreTraces, AreTurnResults, IsTurnResult, IsFitting};
-ghost use Rattle.day_run.specs.FairProgress.{drawn_to};
-ghost use Rattle.day_run.specs.FairProgress.{said_text, sizes_in, with_slot};
+ghost use Rattle.day_run.specs.FairProgress.{drawn_to, said_text, sizes_in, with_slot};
 ghost use Rattle.day_run.specs.MachineState.{IsKept, IsDayMachine, link_on, day_state_of};
 ghost use Rattle.day_run.specs.MachineState.{reply_text};
 ghost use Rattle.day_run.specs.ClientStates.{trace_content};

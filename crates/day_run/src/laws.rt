@@ -15,16 +15,15 @@ ghost use Rattle.admission.specs.Histories.{state_after};
 ghost use Rattle.admission.specs.Makers.{AreHaltsOwn};
 ghost use Rattle.day_run.specs.BookingBalance.{share_of};
 ghost use Rattle.day_run.specs.Clients.{after_open};
-ghost use Rattle.day_run.specs.DayLaws.{IsDrawnTurn, IsFairLine, IsLink};
+ghost use Rattle.day_run.specs.DayLaws.{IsDrawnTurn, IsFairLine, IsLink, IsOfferAnswer};
+ghost use Rattle.day_run.specs.DayLaws.{IsSoundClient, SentIsBookedAfter, SentIsBookedEachTurn};
 ghost use Rattle.day_run.specs.ClientStates.{ClientPlay, Playing, is_playing};
-ghost use Rattle.day_run.specs.DayLaws.{IsOfferAnswer, IsSoundClient, SentIsBookedAfter};
-ghost use Rattle.day_run.specs.DayLaws.{SentIsBookedEachTurn};
 ghost use Rattle.day_run.specs.Days.{AreLineSteps, IsDay, IsFaulty, IsLine, SharedLink, DayState};
-ghost use Rattle.day_run.specs.Days.{booked_up_to};
-ghost use Rattle.day_run.specs.Days.{last_journal, first_moment, rest_at, state_at, sent_up_to};
+ghost use Rattle.day_run.specs.Days.{booked_up_to, last_journal, first_moment, rest_at, state_at};
+ghost use Rattle.day_run.specs.Days.{sent_up_to};
 ghost use Rattle.day_run.specs.FairDays.{IsFair, IsTurn, FairTurn};
-ghost use Rattle.day_run.specs.JournalLaws.{HasItsMaker, IsFullJournal, IsHaltedOnce};
-ghost use Rattle.day_run.specs.JournalLaws.{IsOpenPlayOf, SaysFull, places_needed};
+ghost use Rattle.day_run.specs.JournalLaws.{HasItsMaker, IsFullJournal, IsHaltedOnce, IsOpenPlayOf};
+ghost use Rattle.day_run.specs.JournalLaws.{SaysFull, places_needed};
 ghost use Rattle.day_script.specs.Scripts.{AreClients, AreLines, IsClient, StandsAfter};
 
 /// After lines of a script, what the clients are sent in the slots after the last one, up to any

@@ -1,6 +1,6 @@
 //! What the plays of a day send: films and traces, unit by unit, and as tracks.
 
-ghost use Rattle.std.specs.Prelude.{ℕ, ◌≡◌, ◌^◌, ◌≤◌, ◌<◌, length, sum, IfOk};
+ghost use Rattle.std.specs.Prelude.{ℕ, ◌≡◌, ◌≤◌, ◌<◌, length, sum, IfOk};
 ghost use Rattle.film_frames.specs.Tracks.{framed_bytes};
 ghost use Rattle.film_run.specs.Units.{AreUnitSizes};
 ghost use Rattle.day_run.specs.MediaPieces.{media_pieces, media_sizes, sending_pieces};

@@ -7,11 +7,9 @@ ghost use Rattle.report.specs.JournalTexts.{journal_text};
 ghost use Rattle.day_run.specs.Days.{IsDay, IsLine, last_journal, last_lines, link_of};
 ghost use Rattle.day_run.specs.Days.{first_moment};
 ghost use Rattle.day_run.specs.DayLaws.{IsLink};
-ghost use Rattle.day_script.specs.Scripts.{AreClients, IsClient};
+ghost use Rattle.day_script.specs.Scripts.{AreClients, IsClient, AreLines, StandsAfter, slot_after};
 ghost use Rattle.day_run.specs.MachineState.{HasRun, IsKept, IsPrinted, IsDayMachine, link_on};
-ghost use Rattle.day_run.specs.MachineState.{day_state_of};
-ghost use Rattle.day_run.specs.MachineState.{reply_text};
-ghost use Rattle.day_script.specs.Scripts.{AreLines, StandsAfter, slot_after};
+ghost use Rattle.day_run.specs.MachineState.{day_state_of, reply_text};
 ghost use Rattle.day_run.specs.Sources.{AreSources};
 
 use crate::machine::{DayMachine, LineAnswer};

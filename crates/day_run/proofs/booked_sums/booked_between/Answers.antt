@@ -12,12 +12,8 @@ use Rattle.day_run.proofs.booked_sums.booked_between.Goals as goal
 pub overflow_add-booked : goal.overflow_add-booked
 overflow_add-booked c =
     let calendar = c.calendar-calendar.result.now in
-    let small : c.booked-here.result ≤ MAX_BYTES =
-    omega (
-      arith,
-      c.booked-here.ensures.within,
-      capacity-most calendar.steps c.loop-slot.slot c.booked_through.ensures.calendar.profile,
-    ) in
+    let most = capacity-most calendar.steps c.loop-slot.slot c.booked_through.ensures.calendar.profile in
+    let small : c.booked-here.result ≤ MAX_BYTES = omega (arith, c.booked-here.ensures.within, most) in
     let fits =
     booked-fits (record {
       booked = c.loop-slot.booked;
@@ -39,12 +35,8 @@ overflow_add-booked c =
 pub loop-slot-preserved : goal.loop-slot-preserved
 loop-slot-preserved c =
     let calendar = c.calendar-calendar.result.now in
-    let small : c.booked-here.result ≤ MAX_BYTES =
-    omega (
-      arith,
-      c.booked-here.ensures.within,
-      capacity-most calendar.steps c.loop-slot.slot c.booked_through.ensures.calendar.profile,
-    ) in
+    let most = capacity-most calendar.steps c.loop-slot.slot c.booked_through.ensures.calendar.profile in
+    let small : c.booked-here.result ≤ MAX_BYTES = omega (arith, c.booked-here.ensures.within, most) in
     let f = booked_in (state_after c.args.book.now.entries) in
     let slot = c.loop-slot.slot in
     let from = c.args.from in
