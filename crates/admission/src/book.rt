@@ -43,12 +43,10 @@ impl Model for Book {
 /// How many entries it has and may have; its calendar and its journal are too long for a text.
 impl fmt::Debug for Book {
     fn fmt<W: fmt::Write>(&self, f: &mut fmt::Formatter<W>) -> fmt::Result {
-        write!(
-            f,
-            "Book {{ entries: {}, limit: {}, .. }}",
-            self.entries.len(),
-            self.limit
-        )
+        f.debug_struct("Book")
+            .field("entries", &self.entries.len())
+            .field("limit", &self.limit)
+            .finish_non_exhaustive()
     }
 }
 

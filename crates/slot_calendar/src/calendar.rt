@@ -50,7 +50,9 @@ impl Model for Calendar {
 /// Its first slot alone: a ring of 1,048,576 slots is no text for a reader.
 impl fmt::Debug for Calendar {
     fn fmt<W: fmt::Write>(&self, f: &mut fmt::Formatter<W>) -> fmt::Result {
-        write!(f, "Calendar {{ now: {}, .. }}", self.ring.now())
+        f.debug_struct("Calendar")
+            .field("now", &self.ring.now())
+            .finish_non_exhaustive()
     }
 }
 
