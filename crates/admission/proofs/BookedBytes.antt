@@ -15,16 +15,14 @@ use Rattle.admission.specs.declared.entries.Command.{Command}
 use Rattle.admission.specs.declared.entries.Command.TheVariants.{Play, Halt, Look}
 use Rattle.admission.specs.declared.entries.Answer.{Answer}
 use Rattle.admission.specs.declared.entries.Answer.TheVariants.{Admitted, Overflow, Halted, Looked}
-use Rattle.admission.specs.Machine.{State, CanHalt, admitted_play, booked_in}
-use Rattle.admission.specs.Machine.{next_state, plays_of, start_after}
+use Rattle.admission.specs.Machine.{State, CanHalt, admitted_play, booked_in, next_state, plays_of, start_after}
 use Rattle.admission.specs.Histories.{asked_in, booked_after, is_admission, is_halt, latest_asked, state_after}
 use Rattle.admission.proofs.Admissions.{admission-of}
 use Rattle.admission.proofs.PlayCounts.{tally}
 use Rattle.admission.proofs.Halts.{Found, booked-halted, play_of}
 use Rattle.admission.proofs.OpenPlays.{can-still, whole-after}
-use Rattle.admission.proofs.HistoryPrefixes.{PlacedAnswer, PlayAdmitted, entry_at, legal-take}
-use Rattle.admission.proofs.HistoryPrefixes.{no_entry, placed, state-push}
-use Rattle.admission.proofs.HistoryPrefixes.{told}
+use Rattle.admission.proofs.HistoryPrefixes.{PlacedAnswer, PlayAdmitted, entry_at, legal-take, no_entry, placed}
+use Rattle.admission.proofs.HistoryPrefixes.{state-push, told}
 
 abbrev entry_of : ℕ → Command → Answer → Entry
 entry_of maker command answer = record { maker = maker; command = command; answer = answer }

@@ -4,8 +4,7 @@ use Rattle.std.proofs.lemmas.List.{map_push}
 use Rattle.plan_cert.specs.declared.Segment.{Segment}
 use Rattle.slot_calendar.specs.Plays.{Play as Booked, released_at, whole_play, truncated_play}
 use Rattle.slot_calendar.specs.Calendars.{CalendarState, Represents, booked_at}
-use Rattle.admission.specs.Machine.{AdmittedPlay, with_halted}
-use Rattle.admission.specs.Machine.{admitted_play, plays_of}
+use Rattle.admission.specs.Machine.{AdmittedPlay, with_halted, admitted_play, plays_of}
 use Rattle.admission.proofs.Halts.{WholePlay, play_of, plays-around}
 
 -- a play more

@@ -1,7 +1,6 @@
 -- The play that a halt closes, among the plays before and after it.
 use Rattle.std.proofs.Common.{◌≡◌, ◌≤◌, ◌+◌, ℕ, true, eqb, List, [], ◌∷◌, ◌++◌, length, map, All, Option, Some, None}
-use Rattle.std.proofs.Common.{IsSomeAnd, arith, refl, sym, ap, subst, ◌∙◌}
-use Rattle.std.proofs.Common.{inl, inr}
+use Rattle.std.proofs.Common.{IsSomeAnd, arith, refl, sym, ap, subst, ◌∙◌, inl, inr}
 use Rattle.std.proofs.lemmas.Bool.{cases_Bool, cond-true, cond-false, eqb-true}
 use Rattle.std.proofs.lemmas.List.{drop_at, get_or_at, length-append, map-append, take_at}
 use Rattle.std.proofs.lemmas.List.Elements.{All-append, All-cons, All-drop, All-push, All-tail, All-take}
@@ -14,9 +13,8 @@ use Rattle.admission.specs.declared.entries.Command.{Command}
 use Rattle.admission.specs.declared.entries.Command.TheVariants.{Play, Halt, Look}
 use Rattle.admission.specs.declared.entries.Answer.{Answer}
 use Rattle.admission.specs.declared.entries.Answer.TheVariants.{Admitted, Overflow, Halted, Looked}
-use Rattle.admission.specs.Machine.{State, AdmittedPlay, play_numbered, with_halted, halted_play}
-use Rattle.admission.specs.Machine.{admitted_play, CanHalt}
-use Rattle.admission.specs.Machine.{IsAnswer, booked_in, next_state, plays_of}
+use Rattle.admission.specs.Machine.{State, AdmittedPlay, play_numbered, with_halted, halted_play, admitted_play}
+use Rattle.admission.specs.Machine.{CanHalt, IsAnswer, booked_in, next_state, plays_of}
 use Rattle.admission.specs.Histories.{IsAnswered, play_admitted}
 use Rattle.admission.proofs.HistoryPrefixes.{Machine, next_of}
 

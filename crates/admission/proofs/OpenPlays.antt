@@ -1,7 +1,6 @@
 -- A play is open from the entry that admits it to the entry that halts it.
 use Rattle.std.proofs.Common.{◌≡◌, ◌≤◌, ◌<◌, ◌+◌, ◌-◌, ℕ, zero, suc, Bool, true, false, List, [], ◌∷◌, ◌++◌, length}
-use Rattle.std.proofs.Common.{get_or, take, All, Option, Some, IsSomeAnd}
-use Rattle.std.proofs.Common.{arith, refl, sym, ap, subst, ◌∙◌, inl, inr}
+use Rattle.std.proofs.Common.{get_or, take, All, Option, Some, IsSomeAnd, arith, refl, sym, ap, subst, ◌∙◌, inl, inr}
 use Rattle.std.proofs.lemmas.Bool.{cases_order}
 use Rattle.std.proofs.lemmas.List.{get_or_default, length-take, take_all}
 use Rattle.std.proofs.lemmas.List.Elements.{All-weaker}
@@ -14,15 +13,12 @@ use Rattle.admission.specs.declared.entries.Command.{Command}
 use Rattle.admission.specs.declared.entries.Command.TheVariants.{Play, Halt, Look}
 use Rattle.admission.specs.declared.entries.Answer.{Answer}
 use Rattle.admission.specs.declared.entries.Answer.TheVariants.{Admitted, Overflow, Halted, Looked}
-use Rattle.admission.specs.Machine.{State, AdmittedPlay, CanHalt, IsAnswer, halted_play, play_numbered}
-use Rattle.admission.specs.Machine.{next_state}
+use Rattle.admission.specs.Machine.{State, AdmittedPlay, CanHalt, IsAnswer, halted_play, play_numbered, next_state}
 use Rattle.admission.specs.Machine.{admitted_play}
 use Rattle.admission.specs.Histories.{Halts, IsAdmission, IsHalt, IsLegal, IsStillOpen, IsUnhalted, play_admitted}
 use Rattle.admission.specs.Histories.{state_after}
 use Rattle.admission.proofs.HistoryPrefixes.{legal_history, HaltStep, PlayAdmitted, halt_in, legal-take, next_of}
-use Rattle.admission.proofs.HistoryPrefixes.{no_entry, play_admitted_in, told}
-use Rattle.admission.proofs.HistoryPrefixes.{state-next}
-use Rattle.admission.proofs.HistoryPrefixes.{state-push}
+use Rattle.admission.proofs.HistoryPrefixes.{no_entry, play_admitted_in, told, state-next, state-push}
 use Rattle.admission.proofs.Halts.{Halting, halting, holds-of, split}
 use Rattle.admission.proofs.CapacityBounds.{sound-after, whole-play}
 use Rattle.admission.proofs.Admissions.{IsKnown, admission-of, known-after, known-at, open-inside}
@@ -66,10 +62,7 @@ stays-open (suc j) a unhalted less few = elim (cases_order j a.number) [
       let e = get_or a.entries j no_entry in
       ap (λ (s : State). play_numbered a.number s.held) (state-next a.entries j inside)
       ∙ found-next j e.command e.answer
-      (record {
-        is = stays-open j a unhalted after (omega (arith, few));
-        unhalted = unhalted.each j no_entry inside;
-      })
+      (record { is = stays-open j a unhalted after (omega (arith, few)); unhalted = unhalted.each j no_entry inside })
       )
 ]
 
@@ -230,11 +223,7 @@ open-unhalted {steps} {xs} {number} keep legal can = record {
       let step = halt_in (legal_history legal) (halt_at none inside halts).1 in
       let closed = closed-here step in
       closed-cannot (state_after xs) number keep
-      (record {
-        held = closed.held;
-        is = closed-after step closed;
-        closed_is = closed.closed_is;
-      }) can
+      (record { held = closed.held; is = closed-after step closed; closed_is = closed.closed_is }) can
       );
 }
 

@@ -55,8 +55,7 @@ halted_play keep h =
     record {
       number = h.number;
       play = truncated_play h.play.start h.play.segments keep;
-      is_open =
-          false;
+      is_open = false;
     }
 
 -- the play of a number

@@ -1,6 +1,5 @@
 -- The whole-byte slots of a taut line leave the running sum between the curves, since the curves are whole numbers.
-use Rattle.std.proofs.Common.{◌≡◌, ◌<◌, ◌≤◌, ◌+◌, ◌-◌, ◌*◌, ◌/◌, ℕ, List, [], ◌∷◌, inl, inr, take, sum, arith}
-use Rattle.std.proofs.Common.{ap, ◌∙◌}
+use Rattle.std.proofs.Common.{◌≡◌, ◌<◌, ◌≤◌, ◌+◌, ◌-◌, ◌*◌, ◌/◌, ℕ, List, [], ◌∷◌, inl, inr, take, sum, arith, ap, ◌∙◌}
 use Rattle.std.proofs.Math.Nat.{div-mul-le_self, lt-div-mul-add, lt_of_mul-lt-mul_right, le_of_mul-le-mul_right}
 use Rattle.std.proofs.lemmas.Bool.{cases_lt}
 use Rattle.std.proofs.lemmas.List.Sums.{sum_by-cons}
@@ -60,9 +59,6 @@ line_keeps {at} (s ∷ rest) runs {t} some few =
           let place : at.place + s.slots + d ≡ at.place + t = omega (arith, is) in
           let low = ap at.lo place in
           let high = ap at.hi place in
-          record {
-            above = omega (arith, whole, low, later.above);
-            below = omega (arith, whole, high, later.below);
-          }
+          record { above = omega (arith, whole, low, later.above); below = omega (arith, whole, high, later.below) }
           )
     ]

@@ -41,8 +41,7 @@ sum-take-drop n j ys fits =
 
 -- after a segment, and as many numbers as it has slots
 abbrev beside_after : {m : ℕ} → Beside m → Segment → Beside m
-beside_after b s =
-    record { at = after b.at s; held = b.held + sum (take s.slots b.ys); ys = drop s.slots b.ys }
+beside_after b s = record { at = after b.at s; held = b.held + sum (take s.slots b.ys); ys = drop s.slots b.ys }
 
 -- the numbers that are left stay between the curves from there
 keeps_on : {m : ℕ} {b : Beside m} (s : Segment) → s.slots ≤ length b.ys → KeepsBetween b
@@ -162,10 +161,7 @@ pub record RunsBeside {m : ℕ} (b : Beside m) (segments : List Segment) : Type 
 bounds : {m : ℕ} (p : ℕ) {b : Beside m} (segments : List Segment) → RunsBeside b segments → Bounds p b segments
 bounds {m} p {b} [] line =
     let least = line.keeps.above 0 (omega arith) in
-    record {
-      hot = λ _. omega (arith, least, ap (λ x. m * x) line.ends);
-      cold = λ _. omega arith;
-    }
+    record { hot = λ _. omega (arith, least, ap (λ x. m * x) line.ends); cold = λ _. omega arith }
 bounds {m} p {b} (s ∷ rest) line =
     let slots : total_slots (s ∷ rest) ≡ s.slots + total_slots rest = sum_by-cons (λ x. x.slots) s rest in
     let bytes : total_bytes (s ∷ rest) ≡ s.bytes + total_bytes rest = sum_by-cons (λ x. x.bytes) s rest in

@@ -1,7 +1,6 @@
 -- A walk along the line, slot by slot, against the exact line at a place.
-use Rattle.std.proofs.Common.{◌≡◌, ◌<◌, ◌≤◌, ◌+◌, ◌*◌, ℕ, false, List, length, take, nat_eq, is_some}
-use Rattle.std.proofs.Common.{Option, Some, None, MatchOption, inl, inr, arith, refl, sym, ap, subst, ◌∙◌, eq-eqb}
-use Rattle.std.proofs.Common.{ne_eqb, below_more}
+use Rattle.std.proofs.Common.{◌≡◌, ◌<◌, ◌≤◌, ◌+◌, ◌*◌, ℕ, false, List, length, take, nat_eq, is_some, Option, Some}
+use Rattle.std.proofs.Common.{None, MatchOption, inl, inr, arith, refl, sym, ap, subst, ◌∙◌, eq-eqb, ne_eqb, below_more}
 use Rattle.std.proofs.lemmas.Bool.{cases_eq, cond-true, cond-false, cases_lt, true≢false}
 use Rattle.std.proofs.lemmas.List.{take_all}
 use Rattle.plan_cert.specs.declared.Segment.{Segment}

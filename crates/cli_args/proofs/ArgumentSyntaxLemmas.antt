@@ -1,7 +1,6 @@
 -- Arguments with a meaning have the form of their command.
-use Rattle.std.proofs.Common.{◌≡◌, ℕ, ◌+◌, ◌<◌, ◌≤◌, ◌&&◌, ◌==◌, All, List, [], ◌∷◌, ◌++◌, length, sym, ap, ◌∙◌}
-use Rattle.std.proofs.Common.{arith, Some, None, Bool, true, false, refl, codes, if◌then◌else◌, nat_lt, get_or, inl}
-use Rattle.std.proofs.Common.{inr}
+use Rattle.std.proofs.Common.{◌≡◌, ℕ, ◌+◌, ◌<◌, ◌≤◌, ◌&&◌, ◌==◌, All, List, [], ◌∷◌, ◌++◌, length, sym, ap, ◌∙◌, arith}
+use Rattle.std.proofs.Common.{Some, None, Bool, true, false, refl, codes, if◌then◌else◌, nat_lt, get_or, inl, inr}
 use Rattle.std.specs.List.{after_first, before_first, list_all, position_or_len}
 use Rattle.std.specs.Option.{is_some, option_and_then}
 use Rattle.std.specs.Str.{bytes_eq}
@@ -354,11 +353,7 @@ word_form : (command : Subcommand) (word : List ℕ) → is_setting_of command w
 word_form command word e =
     let one = Any-from_list_any (λ key. is_some (setting_value key word)) (keys_of command) e in
     let read = value_after one.1 word one.4 in
-    record {
-      setting = record { key = one.1; value = read.0 };
-      taken = (one.0, one.2, one.3);
-      word_is = read.1;
-    }
+    record { setting = record { key = one.1; value = read.0 }; taken = (one.0, one.2, one.3); word_is = read.1 }
 
 each_word : (command : Subcommand) (words : List (List ℕ)) → list_all (is_setting_of command) words ≡ true
     → All (IsSettingOf command) words

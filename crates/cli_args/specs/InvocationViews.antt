@@ -7,8 +7,7 @@ use Rattle.cli_args.specs.Invocations.{plan_of, check_of, scan_of, make_of, day_
 use Rattle.cli_args.specs.Invocations.{serve_of, watch_of}
 use Rattle.cli_args.specs.declared.invocations.Invocation.{Invocation as OrderRead}
 use Rattle.cli_args.specs.declared.invocations.Invocation.TheVariants.{Help, Version, Plan, Check}
-use Rattle.cli_args.specs.declared.invocations.Invocation.TheVariants.{Scan}
-use Rattle.cli_args.specs.declared.invocations.Invocation.TheVariants.{Make, Day, Fair, Serve}
+use Rattle.cli_args.specs.declared.invocations.Invocation.TheVariants.{Scan, Make, Day, Fair, Serve}
 use Rattle.cli_args.specs.declared.invocations.Invocation.TheVariants.{Watch}
 use Rattle.cli_args.specs.declared.invocations.PlanSource.{PlanSource as SourceRead}
 use Rattle.cli_args.specs.declared.invocations.PlanSource.TheVariants.{Trace, Film}

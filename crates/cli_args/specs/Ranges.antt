@@ -6,13 +6,11 @@ use Rattle.cli_args.specs.Settings.{texts, values_of}
 use Rattle.cli_args.specs.Invocations.{are_films}
 use Rattle.cli_args.specs.InvocationViews.{source_read, client_params_of, watch_args_of}
 use Rattle.cli_args.specs.ArgumentText.{IsValidJournal, ArePlanSettings, IsValidPictures}
-use Rattle.cli_args.specs.ArgumentText.{IsValidPlays}
-use Rattle.cli_args.specs.ArgumentText.{IsValidSlot, IsValidSource, IsValidClient}
+use Rattle.cli_args.specs.ArgumentText.{IsValidPlays, IsValidSlot, IsValidSource, IsValidClient}
 use Rattle.cli_args.specs.ArgumentText.{AreListenSettings, AreWatchArgs}
 use Rattle.cli_args.specs.declared.invocations.Invocation.{Invocation}
 use Rattle.cli_args.specs.declared.invocations.Invocation.TheVariants.{Help, Version, Plan, Check}
-use Rattle.cli_args.specs.declared.invocations.Invocation.TheVariants.{Scan}
-use Rattle.cli_args.specs.declared.invocations.Invocation.TheVariants.{Make, Day, Fair, Serve}
+use Rattle.cli_args.specs.declared.invocations.Invocation.TheVariants.{Scan, Make, Day, Fair, Serve}
 use Rattle.cli_args.specs.declared.invocations.Invocation.TheVariants.{Watch}
 use Rattle.cli_args.specs.declared.invocations.PlanSource.{PlanSource}
 use Rattle.cli_args.specs.declared.invocations.ClientParams.{ClientParams}

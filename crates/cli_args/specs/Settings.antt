@@ -1,8 +1,7 @@
 -- Settings: arguments `key=value`, split at their first '='. Their order is free, and each key
 -- comes at most once, except those that say otherwise.
-use Rattle.std.specs.Prelude.{ℕ, Bool, true, false, ◌&&◌, ◌==◌, if◌then◌else◌, nat_lt, List}
-use Rattle.std.specs.Prelude.{[], ◌∷◌, length, Option, Some, None, map, flat_map, string_bytes}
-use Rattle.std.specs.Prelude.{String}
+use Rattle.std.specs.Prelude.{ℕ, Bool, true, false, ◌&&◌, ◌==◌, if◌then◌else◌, nat_lt, List, []}
+use Rattle.std.specs.Prelude.{◌∷◌, length, Option, Some, None, map, flat_map, string_bytes, String}
 use Rattle.std.specs.Global.{Global}
 use Rattle.std.specs.List.{before_first, after_first, position_or_len}
 use Rattle.std.specs.Option.{option_to_list}

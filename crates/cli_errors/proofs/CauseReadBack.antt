@@ -4,9 +4,8 @@ use Rattle.std.proofs.Common.{None, codes, refl}
 use Rattle.std.specs.List.{list_all}
 use Rattle.std.specs.Str.{bytes_eq}
 use Rattle.wire_curve.specs.declared.film.CurveFault.TheVariants.{NoPictures, TooManySlots, BufferTooSmall}
-use Rattle.mpeg_scan.specs.declared.faults.FilmFault.TheVariants.{Empty, NoSequence, SystemCode, Mpeg2}
-use Rattle.mpeg_scan.specs.declared.faults.FilmFault.TheVariants.{ShortHeader, BadRate, BadType}
-use Rattle.mpeg_scan.specs.declared.faults.FilmFault.TheVariants.{PictureWithoutSlices, HeadTooLong}
+use Rattle.mpeg_scan.specs.declared.faults.FilmFault.TheVariants.{Empty, NoSequence, SystemCode, Mpeg2, ShortHeader}
+use Rattle.mpeg_scan.specs.declared.faults.FilmFault.TheVariants.{BadRate, BadType, PictureWithoutSlices, HeadTooLong}
 use Rattle.mpeg_scan.specs.declared.faults.FilmFault.TheVariants.{GroupTooLong, TooLong, HeadWithoutPicture}
 use Rattle.sys_demux.specs.declared.faults.SystemFault.TheVariants.{NotPack, BadCode, BadPacket, Truncated}
 use Rattle.cli_errors.specs.ErrorLines.{cause_words}

@@ -1,12 +1,9 @@
 -- What one part more makes of what was written.
-use Rattle.std.proofs.Common.{◌≡◌, ℕ, ◌+◌, ◌≤◌, Bool, true, false, List, ◌++◌, length, take, Option, refl}
-use Rattle.std.proofs.Common.{sym, ap, ◌∙◌, arith, length-append, subst}
-use Rattle.std.proofs.Common.{Result, Ok, Err}
-use Rattle.std.specs.Prelude.{IsErrAnd, OnErr, OnOk, is_ok}
+use Rattle.std.proofs.Common.{◌≡◌, ℕ, ◌+◌, ◌≤◌, Bool, true, false, List, ◌++◌, length, take, Option, refl, sym, ap, ◌∙◌}
+use Rattle.std.proofs.Common.{arith, length-append, subst, Result, Ok, Err, ◌<◌, drop, get_or}
+use Rattle.std.specs.Prelude.{IsErrAnd, OnErr, OnOk, is_ok, flat_map}
 use Rattle.std.proofs.lemmas.Bool.{true≢false}
 use Rattle.std.proofs.Math.Seq.{take-append-add}
-use Rattle.std.proofs.Common.{◌<◌, drop, get_or}
-use Rattle.std.specs.Prelude.{flat_map}
 use Rattle.std.proofs.lemmas.List.{append_assoc, flat_map_more, take-append-drop, take-append-le, take_more}
 use Rattle.std.proofs.lemmas.List.Concat.{flat_map-append}
 use Rattle.vod_base.specs.IoState.{HasRisen, IsWrittenPrefix, told_more}

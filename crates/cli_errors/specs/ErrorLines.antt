@@ -15,13 +15,11 @@ use Rattle.sys_demux.specs.declared.faults.SystemFault.TheVariants.{Truncated}
 use Rattle.cli_errors.specs.StreamWrites.{number_text}
 use Rattle.cli_errors.specs.declared.errors.InputError.{InputError}
 use Rattle.cli_errors.specs.declared.errors.InputError.TheVariants.{NotFound, BadTrace, Curves}
-use Rattle.cli_errors.specs.declared.errors.InputError.TheVariants.{BadCert}
-use Rattle.cli_errors.specs.declared.errors.InputError.TheVariants.{BadScript, Film, System}
-use Rattle.cli_errors.specs.declared.errors.InputError.TheVariants.{FilmTooLarge}
+use Rattle.cli_errors.specs.declared.errors.InputError.TheVariants.{BadCert, BadScript, Film}
+use Rattle.cli_errors.specs.declared.errors.InputError.TheVariants.{System, FilmTooLarge}
 use Rattle.cli_errors.specs.declared.errors.InputError.TheVariants.{NoConnection, RefusedWith}
-use Rattle.cli_errors.specs.declared.errors.InputError.TheVariants.{BadReply}
-use Rattle.cli_errors.specs.declared.errors.InputError.TheVariants.{BadFrame, Framing, EndedEarly}
-use Rattle.cli_errors.specs.declared.errors.InputError.TheVariants.{TurnsSpent}
+use Rattle.cli_errors.specs.declared.errors.InputError.TheVariants.{BadReply, BadFrame, Framing}
+use Rattle.cli_errors.specs.declared.errors.InputError.TheVariants.{EndedEarly, TurnsSpent}
 use Rattle.cli_errors.specs.declared.errors.CliError.{CliError}
 use Rattle.cli_errors.specs.declared.errors.CliError.TheVariants.{Usage, Refused, StoreFault}
 use Rattle.cli_errors.specs.declared.errors.CliError.TheVariants.{SinkFault, NoMemory, GateFault}
@@ -86,8 +84,7 @@ abbrev pub cause_text : InputError → List ℕ
 cause_text fault = words_text (cause_words fault)
 
 abbrev pub refusal_text : List ℕ → InputError → List ℕ
-refusal_text name fault =
-    codes "vodserve: " ++ name ++ codes ": " ++ cause_text fault ++ codes "\n"
+refusal_text name fault = codes "vodserve: " ++ name ++ codes ": " ++ cause_text fault ++ codes "\n"
 
 abbrev pub error_text : CliError → List ℕ
 error_text Usage = codes "vodserve: usage\n"

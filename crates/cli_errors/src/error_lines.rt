@@ -4,8 +4,7 @@ ghost use Rattle.std.specs.Prelude.{◌≡◌, is_ok};
 ghost use Rattle.cli_errors.specs.StreamWrites.{IsTextWritten, with_label};
 ghost use Rattle.cli_errors.specs.ErrorLines.{refusal_text, error_text};
 ghost use Rattle.cli_errors.specs.ErrorReports.{HasGoodName, HasShortNumbers, IsErrorLine};
-ghost use Rattle.cli_errors.specs.ErrorReports.{IsPrintableError};
-ghost use Rattle.cli_errors.specs.ErrorReports.{error_report_of};
+ghost use Rattle.cli_errors.specs.ErrorReports.{IsPrintableError, error_report_of};
 ghost use Rattle.cli_errors.specs.declared.errors.CliError.{CliError as Cause};
 
 use crate::error_causes::write_input_cause;

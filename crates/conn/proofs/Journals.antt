@@ -98,8 +98,7 @@ offered_longer grown slot note offered =
 -- answers that agree with a journal agree with a longer one, from an earlier place on
 pub agree_longer : (grown : LongerJournal) (outcomes : List Outcome)
     → AgreeWith grown.terms grown.journal grown.from outcomes → AgreeWith grown.terms grown.longer grown.low outcomes
-agree_longer grown [] agree =
-    omega (arith, grown.below, agree, prefix_length grown.journal grown.longer grown.prefix)
+agree_longer grown [] agree = omega (arith, grown.below, agree, prefix_length grown.journal grown.longer grown.prefix)
 agree_longer grown (Unasked ∷ outcomes) agree = agree_longer grown outcomes agree
 agree_longer grown (Entered placed ∷ outcomes) agree =
     (stands_longer grown placed agree.0, agree_longer (from_place grown (placed.place + 1)) outcomes agree.1)

@@ -168,12 +168,7 @@ keeps_promise {session} {old_seat} {new_seat} {report} well none is served =
       rounds = course.rounds;
       runs = course.runs;
       ending = course.ending;
-      ended = record {
-        count = length course.rounds;
-        end = report.end;
-        new = served.ended.stage;
-        ends = course.ends;
-      };
+      ended = record { count = length course.rounds; end = report.end; new = served.ended.stage; ends = course.ends };
     }) in
     inl (record {
       served = served;

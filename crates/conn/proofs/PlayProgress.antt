@@ -116,8 +116,7 @@ play_state waits setup play slot =
 -- a play is the same whatever its pacing has sent
 same_play : {play : Played} {due passed sent : ℕ}
     → IsSamePlay (record play { pacer = record play.pacer { due = due; passed = passed; sent = sent } }) play
-same_play =
-    record { run = refl; place = refl; start = refl; plan = refl; before = refl; pieces = refl; paced = refl }
+same_play = record { run = refl; place = refl; start = refl; plan = refl; before = refl; pieces = refl; paced = refl }
 
 -- a play goes on by a slot that is processed
 pub taken_slot : (old : SessionState) (slot : ℕ) (going : PlayGoing old) → old.heard < slot →

@@ -170,14 +170,12 @@ heard_well {old} {film = film} r well =
     by-answer well (PlayOverflowed {placed = placed} entry) =
         entry_well film placed entry.answer_is
         (record { serves = well.0.serves; unstopped = refl; state = well.0.state })
-    by-answer well (PlayFull two) =
-        record { serves = well.0.serves; unstopped = refl; state = well.0.state }
+    by-answer well (PlayFull two) = record { serves = well.0.serves; unstopped = refl; state = well.0.state }
     by-answer well (PlayHalted {placed = placed} entry) = entry_well film placed entry.answer_is (halted_well placed well)
     by-answer well (LookMade {placed = placed} is) =
         entry_well film placed is
         (record { serves = well.serves; unstopped = refl; state = well.state })
-    by-answer well _ =
-        record { serves = well.serves; unstopped = refl; state = well.state }
+    by-answer well _ = record { serves = well.serves; unstopped = refl; state = well.state }
 
 -- a reply that was sent
 settled_well : (ground : Ground) (state : State) → IsStateOf ground state → IsStateOf ground (after_stop state)

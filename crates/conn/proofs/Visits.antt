@@ -209,10 +209,7 @@ all_agree p place at = by-lists p.back p.reports p.old p.served place at
     all_on (returned ∷ back) (report ∷ reports) {old} served =
         let one = one_on (visit films settings returned report) served.1.0 in
         let rest = all_on back reports served.1.1 in
-        record {
-          seat = seat_on old served.0 new one.seat rest.seat;
-          legal = λ legal. rest.legal (one.legal legal);
-        }
+        record { seat = seat_on old served.0 new one.seat rest.seat; legal = λ legal. rest.legal (one.legal legal) }
 
     by-lists : (back : List ReturnedConn) (reports : List ConnReport) (old : SeatState)
         → AreServed films settings old back reports new → (k : ℕ) (here : InsideBack back k)

@@ -123,8 +123,7 @@ next_in {all} {elements} {rest} {moment} place (n, (whole, moment_is)) =
   where
     in_more : (more : List (List ℕ)) → all ≡ elements ++ more → AreInputElements (rest ++ place.tail) more []
         → IsNextIn all elements moment
-    in_more [] all_is cut =
-        absurd (no_element n (rw (← cut) (element_stays rest place.tail n whole)))
+    in_more [] all_is cut = absurd (no_element n (rw (← cut) (element_stays rest place.tail n whole)))
     in_more (element ∷ more) all_is cut =
         let same : cut.0 ≡ n =
         element_once (rest ++ place.tail) cut.0 n cut.1.0 (element_stays rest place.tail n whole) in
@@ -261,13 +260,7 @@ no_third {h} x y ys accepted reply =
     ∙ (ap (steps (begun_sum x)) (moments_parts x.blocks (y ∷ ys))
     ∙ steps_on (begun_sum x) (events_of_elements x.blocks) (events_of_elements (y ∷ ys)))) in
     let same : after.replies ≡ 2 = (blocks_same x.blocks (begun_sum x) x.blocks_are).replies in
-    omega (
-      arith,
-      two_replies h accepted.gone,
-      ap (λ (s : Sum). s.replies) sum,
-      more_reply y ys after reply,
-      same,
-    )
+    omega (arith, two_replies h accepted.gone, ap (λ (s : Sum). s.replies) sum, more_reply y ys after reply, same)
 
 -- where an element stands among blocks and later ones
 data StandsIn (bs ls qs : List (List ℕ)) (e : List ℕ) (es : List (List ℕ)) : Type 0 where
@@ -277,8 +270,7 @@ data StandsIn (bs ls qs : List (List ℕ)) (e : List ℕ) (es : List (List ℕ))
 stands_in : (bs ls qs : List (List ℕ)) (e : List ℕ) (es : List (List ℕ)) → bs ++ ls ≡ qs ++ e ∷ es
     → StandsIn bs ls qs e es
 stands_in [] ls qs e es is = Past qs refl is
-stands_in (b ∷ bs) ls [] e es is =
-    let first : b ≡ e = cc in Within bs (ap (λ t. t ∷ bs) first)
+stands_in (b ∷ bs) ls [] e es is = let first : b ≡ e = cc in Within bs (ap (λ t. t ∷ bs) first)
 stands_in (b ∷ bs) ls (q ∷ qs) e es is =
     let first : b ≡ q = cc in
     let rest : bs ++ ls ≡ qs ++ e ∷ es = cc in

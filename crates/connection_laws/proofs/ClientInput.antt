@@ -151,8 +151,7 @@ pub record IsDrained (wish : Wish) (watched : Watched) (bytes out : List ℕ) : 
   pub history_is : at.history ≡ history_after [] moments
 
 complete_then : (n : ℕ) (complete : Bool) → n ≡ 2 → (nat_lt n 2 || complete) ≡ true → complete ≡ true
-complete_then n complete two awaited =
-    let P : ℕ → Type 0 = λ k. (nat_lt k 2 || complete) ≡ true in subst P two awaited
+complete_then n complete two awaited = let P : ℕ → Type 0 = λ k. (nat_lt k 2 || complete) ≡ true in subst P two awaited
 
 -- the done stage, with its moments
 pub at_done : {wish : Wish} {watched : Watched} {bytes out : List ℕ} {at : WatchStage} {moment : ClientEvent}

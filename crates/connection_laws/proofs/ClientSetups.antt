@@ -162,8 +162,7 @@ two_channels channels is =
 -- a number in its range that is written is read
 chosen_is : {least most number : ℕ} (written : ℕ) → WritesNumber least most (decimal written) number
     → written < 2 ^ 64 → number ≡ written
-chosen_is {number = number} written is small =
-    same_Some number written (sym is.is_number ∙ decimal_read written small)
+chosen_is {number = number} written is small = same_Some number written (sym is.is_number ∙ decimal_read written small)
 
 pub setup_is : (b : Beginning)
     → IsSetupRequest (setup_text b.wish) (film_url b.wish ++ codes "/video") (request_head (setup_parts b.wish))

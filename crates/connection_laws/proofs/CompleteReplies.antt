@@ -195,8 +195,7 @@ record IsTorn (b : Beginning) (new : SessionState) (reply : List ℕ) : Type 0 w
 
 -- an id of a session is printable
 pub id_printed : {s : SessionState} → HasValidIds s → IsPrinted s.id
-id_printed {s} named =
-    rw named.id_is (printed_w64 named.number)
+id_printed {s} named = rw named.id_is (printed_w64 named.number)
 
 -- the reply to one TEARDOWN
 torn_reply : {b : Beginning} {old new : Stage} (request : AnsweredRequest old new)

@@ -86,11 +86,7 @@ pub course_heard : (old new : Stage) (rounds : List Round) → IsCourseBetween o
     → new.session.heard ≡ max old.session.heard (greatest_slot rounds)
 course_heard old new [] follows = ap (λ (s : Stage). s.session.heard) follows ∙ omega arith
 course_heard old new (round ∷ rounds) follows =
-    omega (
-      arith,
-      round_heard old follows.0 round follows.1.0,
-      course_heard follows.0 new rounds follows.1.1,
-    )
+    omega (arith, round_heard old follows.0 round follows.1.0, course_heard follows.0 new rounds follows.1.1)
 
 -- ---- what is done between two sessions
 
@@ -132,8 +128,7 @@ joined a b = record {
 }
 
 joined_assoc : (a b c : Piece) → joined (joined a b) c ≡ joined a (joined b c)
-joined_assoc a b c =
-    rw (append_assoc, append_assoc, append_assoc, append_assoc, append_assoc)
+joined_assoc a b c = rw (append_assoc, append_assoc, append_assoc, append_assoc, append_assoc)
 
 joined_none : (a : Piece) → joined a no_piece ≡ a
 joined_none a =

@@ -1,6 +1,5 @@
 -- The notes of a connection's report, event by event: each play that its entries admit has its note.
-use Rattle.std.proofs.Common.{◌≡◌, ℕ, ◌++◌, Bool, false, List, [], ◌∷◌, None, refl, sym, ap}
-use Rattle.std.proofs.Common.{◌∙◌, Option, Some, map}
+use Rattle.std.proofs.Common.{◌≡◌, ℕ, ◌++◌, Bool, false, List, [], ◌∷◌, None, refl, sym, ap, ◌∙◌, Option, Some, map}
 use Rattle.std.proofs.lemmas.List.{append-nil, map-append, append_assoc}
 use Rattle.film_frames.specs.declared.stored_films.Stored.{Stored}
 use Rattle.film_streams.specs.declared.settings.Settings.{Settings}
@@ -88,8 +87,7 @@ end_halts s rest = λ keep opens. (kept_open s.state s.awaited keep opens rest, 
 finished_turn : {s new : SessionState} {asks : AwaitedAnswer} {halt : Outcome} → FinishesAs s asks halt new
     → HaltsKept s asks → Carries (note_part s) (station_call s halt ∷ []) (note_part new)
 finished_turn {s} NothingLeft kept = unasked_turn (note_part s) s
-finished_turn {s} (DoneHalted {keep = keep} entry) kept =
-    halt_turn s entry (kept keep refl).0 (kept keep refl).1
+finished_turn {s} (DoneHalted {keep = keep} entry) kept = halt_turn s entry (kept keep refl).0 (kept keep refl).1
 
 -- no play is under way once a connection has ended
 none_open : (state : State) → closing (open_in state) ≡ NoAnswer → open_note state [] ≡ []

@@ -2,7 +2,7 @@
 use Rattle.std.proofs.lemmas.List.{append-nil}
 use Rattle.std.proofs.Common.{◌≡◌, ℕ, ◌≤◌, ◌++◌, ◌&&◌, ◌==◌, if◌then◌else◌, Bool, true, false, nat_lt, List, ◌∷◌, refl}
 use Rattle.std.proofs.Common.{ap, sym, ◌∙◌, subst, arith, Option, Some, None, ◌+◌, inl, inr, ◌⊎◌, []}
-use Rattle.conn.proofs.PlayProgress.{reply_state, reply_heard}
+use Rattle.conn.proofs.PlayProgress.{reply_state, reply_heard, state_after_slot}
 use Rattle.std.proofs.lemmas.Bool.{eqb-true, true≢false, and_parts, cases_Bool}
 use Rattle.pacer.specs.PacerStates.{PacerState, is_done, IsPacerState}
 use Rattle.plan_cert.specs.PlanSlots.{total_bytes}
@@ -36,7 +36,6 @@ use Rattle.session.specs.RequestSteps.{is_answered, after_halt}
 use Rattle.connection_laws.specs.ReplyPlaces.{AreSentAt, slots_from}
 use Rattle.connection_laws.specs.Replies.{course_texts}
 use Rattle.connection_laws.proofs.Slots.{sound_waits, turn_sound, waits_after}
-use Rattle.conn.proofs.PlayProgress.{state_after_slot}
 use Rattle.connection_laws.proofs.ReplyBoundaries.{Replying, replying, turn_goes, turn_piece, slot_moves, still_goes}
 use Rattle.connection_laws.proofs.WaitingReplies.{GoesTo, IsHeld, Point, Stand, goes_same, goes_then, point, over_at}
 use Rattle.connection_laws.proofs.WaitingReplies.{due_here}
@@ -61,8 +60,7 @@ pub record Stands (session : SessionState) : Type 0 where
 
 abbrev pub first_stands : (films : List Stored) (settings : Settings) (words : List ℕ)
     → Stands (first_stage films settings words).session
-first_stands films settings words =
-    record { rest = refl; paced = record { sound = tt; pending = None; held = refl } }
+first_stands films settings words = record { rest = refl; paced = record { sound = tt; pending = None; held = refl } }
 
 abbrev pub point_of : {s : SessionState} → IsPaced s → Point
 point_of {s} paced = point (sends_in s.state) s.heard paced.pending
@@ -457,8 +455,7 @@ end_stand : (sends : Sends) (waits : Bool) (heard : ℕ) (pending : Option ℕ) 
     → Stand sends [] (record { end = heard; slots = with_pending pending []; parts = [] })
 end_stand Idle waits heard None sound held = record { texts = tt; film = refl }
 end_stand Idle waits heard (Some slot) sound held = absurd held
-end_stand (Going p) waits heard pending sound held =
-    rw (← sound.1) (end_at p waits heard pending sound.0 held)
+end_stand (Going p) waits heard pending sound held = rw (← sound.1) (end_at p waits heard pending sound.0 held)
 end_stand (Ending p) waits heard None sound held = end_at p waits heard None sound.0 held
 end_stand (Ending p) waits heard (Some slot) sound held = end_at p waits heard (Some slot) sound.0 held
 

@@ -28,8 +28,7 @@ use Rattle.connection_laws.proofs.StationAnswers.{closing, closes_as}
 use Rattle.std.proofs.lemmas.Bool.{and_from}
 use Rattle.session_laws.specs.PlayLaws.{slots_missed}
 use Rattle.session_laws.proofs.SlotCountLemmas.{missed_is}
-use Rattle.connection_laws.proofs.KeptParts.{LastingPart, finish_keeps, reply_keeps, request_keeps}
-use Rattle.connection_laws.proofs.KeptParts.{takes_keep}
+use Rattle.connection_laws.proofs.KeptParts.{LastingPart, finish_keeps, reply_keeps, request_keeps, takes_keep}
 use Rattle.conn.proofs.StationAnswers.{FinishesAs, ComesAs, BytesCame, SlotCame, comes_as}
 
 -- a relation between a session, what the station is asked and answers, and the session after it, which each doing of

@@ -104,8 +104,7 @@ joined a b = record {
 }
 
 pub joined_assoc : (a b c : Exchange) → joined (joined a b) c ≡ joined a (joined b c)
-joined_assoc a b c =
-    rw (append_assoc, append_assoc, append_assoc, append_assoc)
+joined_assoc a b c = rw (append_assoc, append_assoc, append_assoc, append_assoc)
 
 -- what is sent as elements are processed, what the station answers, and the requests that are received
 abbrev turn_exchange : StationCall → Exchange
@@ -143,10 +142,7 @@ join_goes {c = c} a later [] goes = subst (λ s. GoesAll s later.elements c) goe
 join_goes a later (x ∷ xs) goes = (goes.0, (goes.1.0, join_goes goes.0 later xs goes.1.1))
 
 abbrev pub way_then : {a b c : Stage} → Way a b → Way b c → Way a c
-way_then {a} one two = record {
-  elements = one.elements ++ two.elements;
-  goes = join_goes a two one.elements one.goes;
-}
+way_then {a} one two = record { elements = one.elements ++ two.elements; goes = join_goes a two one.elements one.goes }
 
 pub join_exchange : (xs ys : List Element) → exchange_of (xs ++ ys) ≡ joined (exchange_of xs) (exchange_of ys)
 join_exchange [] ys = refl
@@ -226,10 +222,7 @@ passed_over session input n (inl skip) torn = ends_over session input n torn ski
 passed_over session input n (inr block) torn =
     let over : IsPassing (stage session input) n (stage session (drop n input)) =
     record { over = ABlock block.1.0 block.1.1 block.1.3 block.1.4; torn = torn; new_is = refl } in
-    record {
-      way = record { elements = Over n ∷ []; goes = (stage session (drop n input), (over, refl)) };
-      is = refl;
-    }
+    record { way = record { elements = Over n ∷ []; goes = (stage session (drop n input), (over, refl)) }; is = refl }
 
 -- a request that was processed, as it was received
 abbrev hearing : {old new : Stage} {message : List ℕ} {outcome : Outcome} {parts : List SentPart}

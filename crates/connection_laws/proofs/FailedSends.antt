@@ -128,8 +128,7 @@ failed_slot course slot front new failed =
 -- ---- a reply
 takes_more : {new : Stage} (old mid : Stage) (takings : List ElementStep) (taking : ElementStep)
     → TakesAll old takings mid → TakesAll mid (taking ∷ []) new → TakesAll old (takings ++ taking ∷ []) new
-takes_more {new} old mid [] taking takes more =
-    rw (← takes) more
+takes_more {new} old mid [] taking takes more = rw (← takes) more
 takes_more {new} old mid (first ∷ takings) taking takes more =
     (takes.0, (takes.1.0, takes_more {new = new} takes.0 mid takings taking takes.1.1 more))
 
@@ -152,13 +151,7 @@ failed_reply {round} {message} {outcome} {front} course ends =
     let more : TakesAll ends.mid (taking ∷ []) last = (
       last,
       (
-        record {
-          next = failed.next;
-          answered = answered;
-          heard = failed.heard;
-          parts_are = refl;
-          new_is = refl;
-        },
+        record { next = failed.next; answered = answered; heard = failed.heard; parts_are = refl; new_is = refl },
         refl,
       ),
     ) in

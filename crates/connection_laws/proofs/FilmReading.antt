@@ -48,8 +48,7 @@ no_reply b x m (inr report) reply same =
 
 pub more_reply : (y : List ℕ) (ys : List (List ℕ)) (s : Sum) → element_events y ≡ Reply y ∷ []
     → s.replies + 1 ≤ (steps s (events_of_elements (y ∷ ys))).replies
-more_reply y ys s is =
-    rw is (replies_grow (step (Reply y) s) (events_of_elements ys))
+more_reply y ys s is = rw is (replies_grow (step (Reply y) s) (events_of_elements ys))
 
 block_reply : (b : List ℕ) (ys : List (List ℕ)) (s : Sum) → (element_events b ≡ Frame b ∷ [])
     ⊎ (element_events b ≡ Report b ∷ [])
@@ -154,13 +153,7 @@ pub record WholeStream : Type 0 where
 
 -- its run, from the first frame on
 abbrev pub run_from : WholeStream → RunFrom
-run_from s = record {
-  run = film_run s.film s.identity;
-  frames = 0;
-  octets = 0;
-  media = s.media;
-  control = s.control;
-}
+run_from s = record { run = film_run s.film s.identity; frames = 0; octets = 0; media = s.media; control = s.control }
 
 -- all units are the run's
 pub units_all : (film : Film) → take (length film.units.items - 0) (drop 0 film.units.items) ≡ film.units.items

@@ -19,8 +19,7 @@ use Rattle.rtsp_client.specs.ClientHistory.{History, ClientEvent, Frame, Report,
 use Rattle.rtsp_client.specs.ClientHistory.{is_playing}
 use Rattle.connection_laws.proofs.Blocks.{frame_block, frame_blocks, frame_moment, frames_one, frames_after}
 use Rattle.connection_laws.proofs.Blocks.{octets_after, report_block, report_if, report_moment, RunFrom}
-use Rattle.connection_laws.proofs.HistorySums.{IsOneBlock, AreOneBlocks, Sum, blocks_first}
-use Rattle.connection_laws.proofs.HistorySums.{step, steps}
+use Rattle.connection_laws.proofs.HistorySums.{IsOneBlock, AreOneBlocks, Sum, blocks_first, step, steps}
 use Rattle.connection_laws.proofs.UnitSizes.{blocks_one, block_sizes, more_blocks}
 use Rattle.rtsp_client.proofs.RunFrames.{has-packet}
 use Rattle.connection_laws.proofs.Lists.{each_append, each_take}

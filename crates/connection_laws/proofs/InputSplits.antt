@@ -17,10 +17,9 @@ use Rattle.connection_laws.specs.InputSplits.{answer_in, answers_in, heard_in, h
 use Rattle.connection_laws.proofs.KeptParts.{stepped_names}
 use Rattle.connection_laws.proofs.UniqueResults.{steps_same}
 use Rattle.connection_laws.proofs.ElementPaths.{elements_bytes, GoesAll, Path, Element, ends_same, goes_films}
-use Rattle.connection_laws.proofs.ElementPaths.{goes_grow}
-use Rattle.connection_laws.proofs.ElementPaths.{longer, path_of, elements_answers, Exchange}
-use Rattle.connection_laws.proofs.ElementPaths.{no_exchange, joined, joined_assoc, exchange_of, join_exchange}
-use Rattle.connection_laws.proofs.ElementPaths.{takings_exchange, way_then, Way, PathDone, path_moved, AreAlike}
+use Rattle.connection_laws.proofs.ElementPaths.{goes_grow, longer, path_of, elements_answers, Exchange, no_exchange}
+use Rattle.connection_laws.proofs.ElementPaths.{joined, joined_assoc, exchange_of, join_exchange, takings_exchange}
+use Rattle.connection_laws.proofs.ElementPaths.{way_then, Way, PathDone, path_moved, AreAlike}
 use Rattle.connection_laws.proofs.Lists.{joins_parts}
 
 -- bytes that came, the elements that were processed after them, and the end, where no more could be processed

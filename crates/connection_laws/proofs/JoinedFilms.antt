@@ -78,8 +78,7 @@ pub film_holds : (p : PacerState) (n : ℕ) → IsPacerState p → n ≤ total_b
 film_holds p n is few = omega (arith, few, is.whole, length-drop p.before (framed_bytes p.pieces))
 
 pub due_now : (p : PacerState) (slot : ℕ) → IsOnTime p slot → due_of slot (play_with p p.keep) ≡ p.sent
-due_now p slot on =
-    sym (on.even ∙ on.pacing.due ∙ ap (λ n. min (first_slots p.plan n) p.keep) on.passed)
+due_now p slot on = sym (on.even ∙ on.pacing.due ∙ ap (λ n. min (first_slots p.plan n) p.keep) on.passed)
 
 -- a play's bytes so far
 pub film_now : (p : PacerState) (slot : ℕ) → IsOnTime p slot

@@ -1,6 +1,5 @@
 -- Parts of a session that requests, replies and slots leave as they were, with what SETUP settled.
-use Rattle.std.proofs.Common.{◌≡◌, ℕ, ◌&&◌, if◌then◌else◌, Bool, true, false, List, [], ◌∷◌, refl, ap, ◌∙◌}
-use Rattle.std.proofs.Common.{Some}
+use Rattle.std.proofs.Common.{◌≡◌, ℕ, ◌&&◌, if◌then◌else◌, Bool, true, false, List, [], ◌∷◌, refl, ap, ◌∙◌, Some}
 use Rattle.film_frames.specs.declared.stored_films.Stored.{Stored}
 use Rattle.session.specs.declared.commands.Ask.{Ask}
 use Rattle.session.specs.declared.states.Awaited.{Awaited}
@@ -112,8 +111,7 @@ same_names old new same = ap (λ (part : LastingPart). (part.films, part.id)) sa
 
 pub answered_names : (asking : SessionState) (ask : Ask) (outcome : Outcome) (new : SessionState)
     → IsAskAnswered asking ask outcome new → names_in new ≡ names_in asking
-answered_names asking ask outcome new answered =
-    same_names asking new (answer_keeps (answers_as ask outcome answered))
+answered_names asking ask outcome new answered = same_names asking new (answer_keeps (answers_as ask outcome answered))
 
 pub replied_names : (s : SessionState) → names_in (after_reply s) ≡ names_in s
 replied_names s = reply_keeps names_in (λ t. refl) (can_reply s) s

@@ -19,19 +19,16 @@ use Rattle.conn.proofs.StationAnswers.{LookMade, LookFull, OfferMade, answers_as
 -- a reply of another code
 overflow_not_500 : (sequence slot booked asked : ℕ) → HasCode 500 (overflow_text sequence slot booked asked) → ⊥
 unfolding reply_text reply_front status_line digits
-overflow_not_500 sequence slot booked asked is =
-    let first : 52 ≡ 53 = ap (λ l. get_or l 0 0) is in omega (arith, first)
+overflow_not_500 sequence slot booked asked is = let first : 52 ≡ 53 = ap (λ l. get_or l 0 0) is in omega (arith, first)
 
 full_not_500 : (sequence entries live : ℕ) → HasCode 500 (full_text sequence entries live) → ⊥
 unfolding reply_text reply_front status_line digits
-full_not_500 sequence entries live is =
-    let last : 51 ≡ 48 = ap (λ l. get_or l 2 0) is in omega (arith, last)
+full_not_500 sequence entries live is = let last : 51 ≡ 48 = ap (λ l. get_or l 2 0) is in omega (arith, last)
 
 ok_not_500 : (sequence : Option ℕ) (fields : List Field) (body : List ℕ)
     → HasCode 500 (reply_text 200 sequence fields body) → ⊥
 unfolding reply_text reply_front status_line digits
-ok_not_500 sequence fields body is =
-    let first : 50 ≡ 53 = ap (λ l. get_or l 0 0) is in omega (arith, first)
+ok_not_500 sequence fields body is = let first : 50 ≡ 53 = ap (λ l. get_or l 0 0) is in omega (arith, first)
 
 -- what an answer of the station's makes of a session has another code; so the session itself answered it
 own_code : {asking new : SessionState} {ask : Ask} {outcome : Outcome} → AnswersAs asking ask outcome new

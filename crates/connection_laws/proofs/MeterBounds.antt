@@ -174,8 +174,7 @@ pub record RepliesKnown (new : WatchStage) (begin : ℕ) : Type 0 where
 pub always_all : {bytes : List ℕ} {old : WatchStage} {rounds : List Round} {new : WatchStage} (s : WatchedStream)
     → HeardThrough s.stream.x bytes rounds old → RunsAll old rounds new → RepliesKnown new s.begin
     → AreFed s.wish s.stream.film s.stream.x s.begin bytes rounds → IsMet s old.history → IsMet s new.history
-always_all {rounds = []} s through all known fed met =
-    subst (λ (at : WatchStage). IsMet s at.history) (sym all) met
+always_all {rounds = []} s through all known fed met = subst (λ (at : WatchStage). IsMet s at.history) (sym all) met
 always_all {bytes} {old} {rounds = round ∷ rounds} {new} s through all known fed met =
     let mid = all.0 in
     let later = history-later mid new rounds all.1.2 in

@@ -19,8 +19,7 @@ use Rattle.session.specs.RequestSteps.{after_halt}
 use Rattle.session.specs.SlotSteps.{halted_in, halted_notes, kept_of, note_of, state_once_halted}
 use Rattle.session.specs.SessionStates.{SessionState}
 use Rattle.conn.specs.InputSteps.{Outcome, Unasked, Entered}
-use Rattle.connection_laws.specs.Notes.{StationCall, kept_later, notes_of_calls, noted_entry, noted_for}
-use Rattle.connection_laws.specs.Notes.{station_call}
+use Rattle.connection_laws.specs.Notes.{StationCall, kept_later, notes_of_calls, noted_entry, noted_for, station_call}
 use Rattle.connection_laws.specs.Plays.{kept_by, kept_with}
 use Rattle.conn.proofs.StationAnswers.{IsHaltEntry, IsPlayEntry}
 use Rattle.connection_laws.proofs.RequestEffects.{RequestAnswer, OwnReply, SetupReply, Admission, Refusal, HaltMade}
@@ -165,5 +164,4 @@ answered_on (HaltMade halt entry) = record { on = (halt_turn (at_halt halt) entr
 answered_on {old} {asking} {outcome = outcome} (LookAnswer {placed = placed} command looked) =
     still_turn (note_part old) asking outcome (λ later. no_note old.state asking.awaited placed later refl)
     (λ k. ap (λ c. kept_by c k) command)
-answered_on {old} {asking} {outcome = outcome} _ =
-    still_turn (note_part old) asking outcome (λ later. refl) (λ k. refl)
+answered_on {old} {asking} {outcome = outcome} _ = still_turn (note_part old) asking outcome (λ later. refl) (λ k. refl)

@@ -34,8 +34,7 @@ use Rattle.session.specs.SlotTransitions.{after_stop}
 use Rattle.session_laws.proofs.RunLemmas.{AskedPlay, IsLeftBy, IsNextRun, one_film, run_goes_on}
 use Rattle.conn.specs.InputSteps.{Outcome, Entered, SentPart, Stage, Unasked}
 use Rattle.connection_laws.specs.Courses.{Course, asked_by, askings_of, course_plays}
-use Rattle.connection_laws.specs.Plays.{FilmPlay, StationRequest, Asks, kept_by, kept_in, kept_with, play_by}
-use Rattle.connection_laws.specs.Plays.{plays_of}
+use Rattle.connection_laws.specs.Plays.{FilmPlay, StationRequest, Asks, kept_by, kept_in, kept_with, play_by, plays_of}
 use Rattle.connection_laws.specs.LookLimits.{course_looks, look_in, looks_in}
 use Rattle.connection_laws.specs.PlayRuns.{AreRunsInOrder, IsFirstRun, IsLaterRun, RunPlace, SendsNext, run_place}
 use Rattle.connection_laws.proofs.StationAnswers.{SlotTo, SlotSent, slot_to}
@@ -44,8 +43,7 @@ use Rattle.connection_laws.proofs.RequestEffects.{Admission, HaltMade, JournalFu
 use Rattle.connection_laws.proofs.RequestEffects.{Refusal, RequestAnswer, SetupReply, request_answer}
 use Rattle.connection_laws.proofs.KeptParts.{reply_keeps, slot_keeps}
 use Rattle.connection_laws.proofs.CourseInduction.{Piece, AnsweredRequest, asking_of, begin_of}
-use Rattle.conn.proofs.StationAnswers.{IsHaltEntry, IsPlayEntry}
-use Rattle.conn.proofs.StationAnswers.{ComesAs, BytesCame, SlotCame}
+use Rattle.conn.proofs.StationAnswers.{IsHaltEntry, IsPlayEntry, ComesAs, BytesCame, SlotCame}
 use Rattle.conn.specs.EventSteps.{Round}
 use Rattle.admission.specs.declared.entries.Answer.TheVariants.{Admitted}
 
@@ -274,11 +272,7 @@ module _ (words : List ℕ) where
       inr (counted_done (stream_of stop.s) stop.setup stop.play.run stop.keep last way)
   halt_state {next = Paused run} kept stop place way = (
     refl,
-    inr (record {
-      stored = way.stored;
-      at = way.at;
-      place = rw (way.place, left.first, left.end, left.sent);
-    }),
+    inr (record { stored = way.stored; at = way.at; place = rw (way.place, left.first, left.end, left.sent) }),
   )
     where
       open stop use {s, setup, play, keep, left}
@@ -380,8 +374,7 @@ module _ (words : List ℕ) {base : SessionState} (asked : AskedPlay base) where
   next_run last rest (inl resumed) =
       rw resumed.counts_are (resumed_next last prepared.run
       (subst (λ p. IsAtRest words p (stream_of base) setup last) resumed.paused_is rest))
-  next_run last rest (inr begun) =
-      rw begun.counts_are (rest_next paused last prepared.run begun.none_sent rest)
+  next_run last rest (inr begun) = rw begun.counts_are (rest_next paused last prepared.run begun.none_sent rest)
 
   -- no TEARDOWN was answered
   at_rest : (last : Option RunPlace) → base.torn ≡ false

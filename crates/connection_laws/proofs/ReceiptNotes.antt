@@ -42,8 +42,7 @@ logs_none old new same = (
 -- an entry's answer is noted, and no offer
 logs_entry : {answer : Answer} (s : SessionState) (placed : PlacedEntry) → placed.entry.answer ≡ answer
     → Logs s (Entered placed ∷ []) (record s { receipts = s.receipts ++ EntryReceipt placed.place answer ∷ [] })
-logs_entry s placed is =
-    (ap (λ a. s.receipts ++ EntryReceipt placed.place a ∷ []) (sym is), sym (append-nil s.offers))
+logs_entry s placed is = (ap (λ a. s.receipts ++ EntryReceipt placed.place a ∷ []) (sym is), sym (append-nil s.offers))
 
 -- ---- requests and slots
 logs_answer : {old asking new : SessionState} {outcome : Outcome} → RequestAnswer old asking outcome new
@@ -93,8 +92,7 @@ logs_kept = record {
 module _ {films : List Stored} {settings : Settings} {words : List ℕ} {doings : Activity} {report : ConnReport}
     (done : HasDone films settings words doings report) where
   logs_all : Logs (first_stage films settings words).session (doings_outcomes doings) done.closed
-  logs_all =
-      rw (← (turns_told done)) (doings_kept done logs_kept)
+  logs_all = rw (← (turns_told done)) (doings_kept done logs_kept)
 
   pub receipts_told : report.receipts.items ≡ receipts_in (doings_outcomes doings)
   receipts_told = done.report_is.receipts ∙ logs_all.0

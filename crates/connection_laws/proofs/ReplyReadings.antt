@@ -69,8 +69,7 @@ AreAllPrinted (part ∷ parts) = IsPrinted part × AreAllPrinted parts
 
 pub printed_parts : (parts : List (List ℕ)) → AreAllPrinted parts → IsPrinted (joined_parts parts)
 printed_parts [] are = refl
-printed_parts (part ∷ parts) are =
-    all-append is_url_byte part (joined_parts parts) are.0 (printed_parts parts are.1)
+printed_parts (part ∷ parts) are = all-append is_url_byte part (joined_parts parts) are.0 (printed_parts parts are.1)
 
 pub printed_seconds : (ms : ℕ) → ms < 2 ^ 64 → IsPrinted (seconds_text ms)
 printed_seconds ms small =
@@ -118,10 +117,7 @@ pub printed_w64 : (n : ℕ) → IsPrinted (encode_lower (to_be_bytes w64 n))
 printed_w64 n =
     printed_hex (to_be_bytes w64 n) (
       omega arith,
-      (
-        omega arith,
-        (omega arith, (omega arith, (omega arith, (omega arith, (omega arith, (omega arith, tt)))))),
-      ),
+      (omega arith, (omega arith, (omega arith, (omega arith, (omega arith, (omega arith, (omega arith, tt))))))),
     )
 
 -- ---- a reply of 200 without a body
@@ -171,20 +167,14 @@ setup_read {message} ssrc id whole printed is =
     printed_parts (codes "RTP/AVP/TCP;unicast;interleaved=" ∷ decimal 0 ∷ codes "-" ∷ decimal 1 ∷ codes ";ssrc="
     ∷ encode_lower (to_be_bytes w32 ssrc) ∷ []) (
       refl,
-      (
-        printed_decimal 0 (omega arith),
-        (refl, (printed_decimal 1 (omega arith), (refl, (printed_w32 ssrc, tt)))),
-      ),
+      (printed_decimal 0 (omega arith), (refl, (printed_decimal 1 (omega arith), (refl, (printed_w32 ssrc, tt))))),
     ) in
     let plain : All IsPlain fields =
     one_more (codes "Transport") named (plain_field (codes "Transport") refl transport)
     (one_more (codes "Session") [] (plain_field (codes "Session") refl printed) (All-nil IsPlain)) in
     let read : IsReplyRead message 1 fields =
     read_reply 1 fields (omega arith) whole.size (with_number 1 fields (omega arith) plain) is in
-    record {
-      answer = read.answer;
-      named = session_named message (read.values (codes "Session")) printed;
-    }
+    record { answer = read.answer; named = session_named message (read.values (codes "Session")) printed }
 
 -- ---- TEARDOWN
 
@@ -243,10 +233,7 @@ play_plain p =
           refl,
           (
             p.name_prints,
-            (
-              refl,
-              (printed_decimal p.number p.number_fits, (refl, (printed_decimal p.time p.time_fits, tt))),
-            ),
+            (refl, (printed_decimal p.number p.number_fits, (refl, (printed_decimal p.time p.time_fits, tt)))),
           ),
         ),
       ),
@@ -280,8 +267,4 @@ play_answer {message} p whole is =
     let read : IsPlayRead message p.id 2 p.end_ms p.slots =
     play_read info numbers whole.size is
     (with_number 2 (fields ++ field (codes "x-Start") (decimal p.slots) ∷ []) (omega arith) (play_plain p)) in
-    record {
-      answer = read.answer;
-      range = read.range;
-      start = ap (λ (o : Option ℕ). is_some o) read.start;
-    }
+    record { answer = read.answer; range = read.range; start = ap (λ (o : Option ℕ). is_some o) read.start }

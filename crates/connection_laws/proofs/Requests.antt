@@ -212,8 +212,7 @@ requests_taken beginning cutting =
 -- texts that are found complete, each before whatever comes after it
 abbrev pub AreFound : List (List ℕ) → Type 0
 AreFound [] = ⊤
-AreFound (text ∷ texts) =
-    ((later : List ℕ) → IsFirst (text ++ later) (Ok (Request (length text)))) × AreFound texts
+AreFound (text ∷ texts) = ((later : List ℕ) → IsFirst (text ++ later) (Ok (Request (length text)))) × AreFound texts
 
 -- what they make together
 abbrev pub joined : List (List ℕ) → List ℕ

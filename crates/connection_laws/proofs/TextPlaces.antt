@@ -187,8 +187,7 @@ all_of past = past.play ∷ past.plays
 
 past_due : (past : PastPlay) (slot : ℕ) → past.from ≤ slot
     → all_due slot (all_of past) ≡ past.play.keep + all_due slot past.plays
-past_due past slot later =
-    let own = past.over slot later in due_cons slot past.play past.plays ∙ omega (arith, own)
+past_due past slot later = let own = past.over slot later in due_cons slot past.play past.plays ∙ omega (arith, own)
 
 past_unsent : {slot : ℕ} (past : PastPlay) → past.from ≤ slot → IsUnsentAt past.end past.plays slot
     → IsUnsentAt past.end (all_of past) slot

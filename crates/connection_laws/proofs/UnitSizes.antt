@@ -28,8 +28,7 @@ use Rattle.connection_laws.proofs.Blocks.{blocks_append, frame_block, frame_bloc
 use Rattle.connection_laws.proofs.Blocks.{octets_after, report_block, report_if, report_moment, unit_among, unit_blocks}
 use Rattle.connection_laws.proofs.Blocks.{unit_made, unit_one, RunFrom}
 use Rattle.connection_laws.proofs.PieceCounts.{count_past, count_within}
-use Rattle.connection_laws.proofs.HistorySums.{IsOneBlock, AreOneBlocks, Sum, blocks_same, plays, step, steps}
-use Rattle.connection_laws.proofs.HistorySums.{steps_on}
+use Rattle.connection_laws.proofs.HistorySums.{IsOneBlock, AreOneBlocks, Sum, blocks_same, plays, step, steps, steps_on}
 use Rattle.connection_laws.proofs.Lists.{each_append, joins_parts}
 
 -- the moments of blocks, in two parts
@@ -160,11 +159,7 @@ whole_unit {s} false from marked_unit some between =
     let done = whole_frames (record { run = run; frames = f; unit = unit; media = media }) packets marked some in
     let size : s.pending + length (framed_bytes (frame_blocks run unit f packets)) ≡ length
     (framed_bytes (frame_blocks run unit f packets)) = omega (arith, between.none) in
-    record {
-      sizes = done.sizes ∙ ap (λ n. s.sizes ++ n ∷ []) size;
-      pending = done.pending;
-      inside = done.inside;
-    }
+    record { sizes = done.sizes ∙ ap (λ n. s.sizes ++ n ∷ []) size; pending = done.pending; inside = done.inside }
   where
     open from use {run, frames as f, media}
     open marked_unit use {unit, packets, marked}
@@ -183,11 +178,7 @@ whole_unit {s} true from marked_unit some between =
     ) in
     block_sizes b blocks (λ l. IsUnitDone s (length (b ++ framed_bytes blocks)) (steps s l))
     (report_moment run f o unit control)
-    (record {
-      sizes = done.sizes ∙ ap (λ n. s.sizes ++ n ∷ []) size;
-      pending = done.pending;
-      inside = done.inside;
-    })
+    (record { sizes = done.sizes ∙ ap (λ n. s.sizes ++ n ∷ []) size; pending = done.pending; inside = done.inside })
   where
     open from use {run, frames as f, octets as o, media, control}
     open marked_unit use {unit, packets, marked}

@@ -52,8 +52,7 @@ pub record Fits (at : Point) (askings : List StationRequest) (come : ToCome) : T
 
 -- what is to come from before a doing on
 abbrev pub piece_then : Piece → ToCome → ToCome
-piece_then piece come =
-    record { end = come.end; slots = piece.slots ++ come.slots; parts = piece.parts ++ come.parts }
+piece_then piece come = record { end = come.end; slots = piece.slots ++ come.slots; parts = piece.parts ++ come.parts }
 
 pub record GoesTo (old new : Point) (piece : Piece) : Type 0 where
   pub later : old.heard ≤ new.heard

@@ -7,9 +7,7 @@ use Rattle.film_streams.specs.declared.settings.Settings.{Settings}
 use Rattle.session.specs.Laws.{IsOutOfMemory}
 use Rattle.session.specs.SessionStates.{SessionState}
 use Rattle.conn.specs.EventSteps.{IsIdle, IsStopped, Round, Runs, rounds_outcomes}
-use Rattle.conn.specs.InputSteps.{Answered, Outcome, Passed, Stage, ElementStep}
-use Rattle.conn.specs.InputSteps.{TakesAll}
-use Rattle.conn.specs.InputSteps.{Unasked}
+use Rattle.conn.specs.InputSteps.{Answered, Outcome, Passed, Stage, ElementStep, TakesAll, Unasked}
 use Rattle.conn.specs.declared.reports.ConnEnd.{ConnEnd}
 use Rattle.connection_laws.specs.Courses.{first_stage, rounds_bytes}
 

@@ -15,11 +15,8 @@ use Rattle.session.specs.declared.states.State.TheVariants.{Ready}
 use Rattle.session_laws.specs.PlayLaws.{slots_missed}
 use Rattle.session.specs.SlotSteps.{is_sending, is_taken, after_slot, start_in}
 use Rattle.session.specs.SessionStates.{SessionState}
-use Rattle.conn.specs.EventSteps.{Ending, AtElement, InSlot, InReply}
-use Rattle.conn.specs.EventSteps.{Ends, Round, Runs, RunsAll}
-use Rattle.conn.specs.InputSteps.{Outcome, Entered, Stage, ElementStep}
-use Rattle.conn.specs.InputSteps.{Passed}
-use Rattle.conn.specs.InputSteps.{Answered, TakesAll}
+use Rattle.conn.specs.EventSteps.{Ending, AtElement, InSlot, InReply, Ends, Round, Runs, RunsAll}
+use Rattle.conn.specs.InputSteps.{Outcome, Entered, Stage, ElementStep, Passed, Answered, TakesAll}
 use Rattle.conn.specs.Agreement.{Activity, HasDone}
 use Rattle.connection_laws.specs.Courses.{first_stage}
 use Rattle.connection_laws.specs.Plays.{booked_by, kept_with}

@@ -53,8 +53,7 @@ film_written slot plays = take (due_by slot plays) (bytes_of_plays plays)
 
 -- each play that another one follows was sent as far as it is kept
 abbrev pub AreOver : ℕ → List FilmPlay → Type 0
-AreOver slot (play ∷ next ∷ plays) =
-    (due_of slot play ≡ play.keep) × AreOver slot (next ∷ plays)
+AreOver slot (play ∷ next ∷ plays) = (due_of slot play ≡ play.keep) × AreOver slot (next ∷ plays)
 AreOver slot _ = ⊤
 
 -- what a connection asked the station for, and what the station answered

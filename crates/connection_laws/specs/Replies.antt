@@ -36,8 +36,7 @@ placed_texts place (Text text ∷ parts) = placed_text place text ∷ placed_tex
 abbrev pub takings_replies : (old : Stage) (takings : List ElementStep) (new : Stage)
     → TakesAll old takings new → List (List ℕ)
 takings_replies old [] new takes = []
-takings_replies old (Passed n ∷ takings) new takes =
-    takings_replies takes.0 takings new takes.1.1
+takings_replies old (Passed n ∷ takings) new takes = takings_replies takes.0 takings new takes.1.1
 takings_replies old (Answered message outcome parts ∷ takings) new takes =
     takes.1.0.answered.text ∷ takings_replies takes.0 takings new takes.1.1
 

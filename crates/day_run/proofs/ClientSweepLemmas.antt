@@ -200,13 +200,7 @@ pub record SlotSwept (entries : List Entry) (old : List Client) (heard slot : �
 as-many : (f : ClientState → ClientState) (old new : List Client) → map state_of new ≡ map f (map state_of old)
     → length new ≡ length old
 as-many f old new are =
-    omega (
-      arith,
-      ap length are,
-      length-map new state_of,
-      length-map (map state_of old) f,
-      length-map old state_of,
-    )
+    omega (arith, ap length are, length-map new state_of, length-map (map state_of old) f, length-map old state_of)
 
 -- a day at a slot
 pub slot-moment : {entries : List Entry} {old : List Client} {heard slot : ℕ} (swept : SlotSwept entries old heard slot)

@@ -36,8 +36,7 @@ record FrontOf (link : SharedLink) (ls : List Line) (count : ℕ) (old new : Day
 
 run-front : (ls : List Line) (ts : List (List ℕ)) (count : ℕ) (taken : LineRun ls ts)
     → FrontOf taken.link ls count taken.old taken.new
-run-front ls ts zero taken =
-    record { texts = []; moment = taken.old; front = refl; grown = run-grown ls ts taken }
+run-front ls ts zero taken = record { texts = []; moment = taken.old; front = refl; grown = run-grown ls ts taken }
 run-front [] [] (suc count) taken =
     record { texts = []; moment = taken.old; front = refl; grown = kept-grown taken.old taken.new taken.run }
 run-front (l ∷ ls) (t ∷ ts) (suc count) taken =

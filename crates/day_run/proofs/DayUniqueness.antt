@@ -380,8 +380,7 @@ one-done pair None begun stands both = one-told pair both.a both.b
 done-sound : (step : LineStep) (line : Option Line) → IsBegun step.link step.old → MayStand step.link step.old line
     → IsDone step.link line step.old step.new step.text → IsSound step.new
 done-sound step (Some line) begun stands is = line-sound step line begun.fair.link_is stands begun.sound is
-done-sound step None begun stands is =
-    subst IsSound (sym is.kept) begun.sound
+done-sound step None begun stands is = subst IsSound (sym is.kept) begun.sound
 
 -- ---- a turn has one outcome
 mid-begun : (taken : TakenTurn) → IsBegun taken.link taken.turn.old → IsBegun taken.link taken.turn.mid

@@ -182,8 +182,7 @@ turns-more : (turns : List FairTurn) (come : TurnRun turns) (turn : FairTurn) �
     → IsTurn come.link (after_turns come.words turns) turn
     → AreTurns come.link come.words (turns ++ turn ∷ []) come.old turn.new
 turns-more [] come turn at is = (at ∙ come.run, (is, refl))
-turns-more (t ∷ turns) come turn at is =
-    (come.run.0, (come.run.1.0, turns-more turns (rest_turns come) turn at is))
+turns-more (t ∷ turns) come turn at is = (come.run.0, (come.run.1.0, turns-more turns (rest_turns come) turn at is))
 
 after-more : (words : ℕ → ℕ) (turns : List FairTurn) (turn : FairTurn)
     → after_turns words (turns ++ turn ∷ []) ≡ after_turn (after_turns words turns) turn

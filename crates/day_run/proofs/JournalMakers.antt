@@ -1,6 +1,5 @@
 -- Whose the entries are that a line makes.
-use Rattle.std.proofs.Common.{◌≡◌, ℕ, Bool, true, false, cond, List, [], ◌∷◌, All, arith, refl, sym, ap, ◌∙◌, ◌+◌}
-use Rattle.std.proofs.Common.{Some}
+use Rattle.std.proofs.Common.{◌≡◌, ℕ, Bool, true, false, cond, List, [], ◌∷◌, All, arith, refl, sym, ap, ◌∙◌, ◌+◌, Some}
 use Rattle.std.proofs.lemmas.List.{append-nil}
 use Rattle.std.proofs.lemmas.List.Elements.{All-append, All-cons, All-nil}
 use Rattle.admission.specs.declared.entries.Entry.{Entry}
@@ -8,12 +7,10 @@ use Rattle.admission.specs.Histories.{is_halt}
 use Rattle.day_script.specs.declared.scripts.Line.{Line}
 use Rattle.day_script.specs.declared.scripts.Line.TheVariants as lines
 use Rattle.day_run.specs.ClientStates.{ClientState, Playing, is_done}
-use Rattle.day_run.specs.Days.{IsLine, IsNoted, DayState}
-use Rattle.day_run.specs.Days.{done_halt, halt_by, halt_entries, halts_at}
+use Rattle.day_run.specs.Days.{IsLine, IsNoted, DayState, done_halt, halt_by, halt_entries, halts_at}
 use Rattle.day_run.specs.JournalLaws.{HasItsMaker, IsMadeBy}
-use Rattle.day_run.proofs.LineOutcomes.{LineCase}
-use Rattle.day_run.proofs.LineOutcomes.{offer-kept, LineOutcome, line-outcome}
-use Rattle.day_run.proofs.LineOutcomes.{LineOutcome, Kept, Asked, Stopped, Looks, Reached, line-outcome}
+use Rattle.day_run.proofs.LineOutcomes.{LineCase, offer-kept, LineOutcome, line-outcome, Kept, Asked, Stopped, Looks}
+use Rattle.day_run.proofs.LineOutcomes.{Reached}
 use Rattle.day_run.proofs.ScriptLines.{LineStep}
 
 none-made : {maker : ℕ} (step : LineStep) → step.new ≡ step.old → IsMadeBy maker step.old step.new

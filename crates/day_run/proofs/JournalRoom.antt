@@ -15,10 +15,9 @@ use Rattle.day_run.specs.BookingBalance.{IsReady}
 use Rattle.day_run.specs.Days.{SharedLink, DayState, entry_by, last_journal}
 use Rattle.day_run.specs.FairDays.{FairTurn}
 use Rattle.day_run.proofs.FairLaws.{mid-ready, turn-mid}
-use Rattle.day_run.proofs.LineOutcomes.{LineCase}
-use Rattle.day_run.proofs.LineOutcomes.{halted_client, morning-ready, outcome-ready, LineOutcome, Kept, Asked, Stopped}
-use Rattle.day_run.proofs.LineOutcomes.{Looks, Reached, IsInOrder, TakenTurn, line-order, line-outcome, taken-keeps}
-use Rattle.day_run.proofs.LineOutcomes.{turn-order, turn-outcome, turn_step}
+use Rattle.day_run.proofs.LineOutcomes.{LineCase, halted_client, morning-ready, outcome-ready, LineOutcome, Kept, Asked}
+use Rattle.day_run.proofs.LineOutcomes.{Stopped, Looks, Reached, IsInOrder, TakenTurn, line-order, line-outcome}
+use Rattle.day_run.proofs.LineOutcomes.{taken-keeps, turn-order, turn-outcome, turn_step}
 use Rattle.day_run.proofs.ScriptLines.{LineStep, LinesTaken}
 use Rattle.day_run.proofs.SentBookedLemmas.{its-held, open_one}
 use Rattle.day_run.proofs.SlotBalance.{last-halted, places-halt, slot-halted}
@@ -29,10 +28,7 @@ pub record TakesPlaces (limit : ℕ) (old new : List Entry) : Type 0 where
   pub within : places_taken old ≤ limit → places_taken new ≤ limit
 
 same-places : {limit : ℕ} (old new : List Entry) → places_taken new ≡ places_taken old → TakesPlaces limit old new
-same-places old new same = record {
-  few = omega (arith, same);
-  within = λ fits. omega (arith, same, fits);
-}
+same-places old new same = record { few = omega (arith, same); within = λ fits. omega (arith, same, fits) }
 
 kept-places : {limit : ℕ} (old new : DayState) → new ≡ old → TakesPlaces limit old.entries new.entries
 kept-places old new kept = same-places old.entries new.entries (ap (λ (m : DayState). places_taken m.entries) kept)

@@ -124,12 +124,9 @@ grown-on a b c one two =
 pub outcome-grown : {case : LineCase} (step : LineStep)
     → LineOutcome step case → HasGrown step.old.entries step.new.entries
 outcome-grown step (Kept own at) = kept-grown step.old step.new own.kept
-outcome-grown step (Asked own at) =
-    record { made = _; new_is = ap (λ (m : DayState). m.entries) own.made.noted.new_is }
-outcome-grown step (Stopped own at) =
-    record { made = _; new_is = ap (λ (m : DayState). m.entries) own.is.noted.new_is }
-outcome-grown step (Looks own at) =
-    record { made = _; new_is = ap (λ (m : DayState). m.entries) own.made.noted.new_is }
+outcome-grown step (Asked own at) = record { made = _; new_is = ap (λ (m : DayState). m.entries) own.made.noted.new_is }
+outcome-grown step (Stopped own at) = record { made = _; new_is = ap (λ (m : DayState). m.entries) own.is.noted.new_is }
+outcome-grown step (Looks own at) = record { made = _; new_is = ap (λ (m : DayState). m.entries) own.made.noted.new_is }
 outcome-grown {case} step (Reached own) =
     record { made = halts_at step.old case.slot; new_is = ap (λ (m : DayState). m.entries) own.is }
 
@@ -266,8 +263,7 @@ pub line-order : {n : ℕ} (step : LineStep) (line : Line) → StandingLine step
     → IsInOrder step (maker_of line) (slot_after step.old.heard line)
 line-order step (lines.Look slot) standing = record { inside = omega arith; later = omega arith }
 line-order step (lines.Slot slot) standing = record { inside = tt; later = omega (arith, standing.stands.0) }
-line-order step (lines.Offer c source buffer delay wait) standing =
-    record { inside = omega arith; later = omega arith }
+line-order step (lines.Offer c source buffer delay wait) standing = record { inside = omega arith; later = omega arith }
 line-order step line standing = record { inside = standing.client; later = omega arith }
 
 -- the lines after the first of those that are taken
@@ -340,8 +336,7 @@ turn-order taken = client-order (turn_step taken) (omega arith)
 
 -- ---- what the lines of a script leave of the balance between what is sent and what is booked
 pub ready-kept : (old new : DayState) → new ≡ old → IsReady old → IsReady new
-ready-kept old new kept ready =
-    subst IsReady (sym kept) ready
+ready-kept old new kept ready = subst IsReady (sym kept) ready
 
 -- a client of a day that plays nothing
 record IsFreeOf (old : DayState) (client : ℕ) : Type 0 where
@@ -445,8 +440,7 @@ idle-plays zero = refl
 idle-plays (suc n) = omega (arith, idle-plays n, sum_by-cons playing_one Idle (replicate n Idle))
 
 idle-held : (c : ℕ) → c < 256 → AreHeldOf [] c (get_or (replicate 256 Idle) c Idle)
-idle-held c inside =
-    subst (AreHeldOf [] c) (sym (get_or-replicate 256 c Idle Idle inside)) tt
+idle-held c inside = subst (AreHeldOf [] c) (sym (get_or-replicate 256 c Idle Idle inside)) tt
 
 pub morning-ready : IsReady first_moment
 morning-ready = record {

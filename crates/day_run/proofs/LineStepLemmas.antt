@@ -103,8 +103,7 @@ pub record PausedPlay (heard : ℕ) (halt : Halt) (client next : Client) : Type 
 
 pub paused-play : {heard : ℕ} {halt : Halt} (client next : Client) → IsPauseOf heard halt client next
     → PausedPlay heard halt client next
-paused-play (clients.Playing play) next is =
-    record { play = play; client_is = refl; number_is = is.0; pause = is.1 }
+paused-play (clients.Playing play) next is = record { play = play; client_is = refl; number_is = is.0; pause = is.1 }
 paused-play _ next is = absurd is
 
 pub no-pause : (step : LineStep) (c : ℕ) (client : Client) → IsQuiet client

@@ -21,10 +21,9 @@ use Rattle.day_run.specs.FairDays.{FairTurn, turn_booked, turn_peak}
 use Rattle.day_run.specs.ClientStates.{ClientState, booking_of, sent_by}
 use Rattle.day_run.proofs.SentBookedLemmas.{its-held}
 use Rattle.day_run.proofs.SlotBalance.{last-halted, play-stays, slot-halted, stays-halt}
-use Rattle.day_run.proofs.LineOutcomes.{LineCase}
-use Rattle.day_run.proofs.LineOutcomes.{TakenTurn, after_answer, halted_client, ready-sent, taken-ready, PlayHalted}
-use Rattle.day_run.proofs.LineOutcomes.{LineOutcome, Kept, Asked, Stopped, Looks, Reached, IsInOrder, line-order}
-use Rattle.day_run.proofs.LineOutcomes.{line-outcome, outcome-heard, turn-order, turn-outcome, turn_step}
+use Rattle.day_run.proofs.LineOutcomes.{LineCase, TakenTurn, after_answer, halted_client, ready-sent, taken-ready}
+use Rattle.day_run.proofs.LineOutcomes.{PlayHalted, LineOutcome, Kept, Asked, Stopped, Looks, Reached, IsInOrder}
+use Rattle.day_run.proofs.LineOutcomes.{line-order, line-outcome, outcome-heard, turn-order, turn-outcome, turn_step}
 use Rattle.day_run.proofs.ScriptLines.{LineStep, LinesTaken, NextTaken}
 use Rattle.day_run.proofs.FairLaws.{TurnRun, first_turn, fold-top, mid-heard, mid-ready, rest_turns, turn-mid}
 use Rattle.day_run.proofs.FairLaws.{turn-ready}

@@ -66,8 +66,7 @@ pausing-cases P slot stop rest done still = by-test (sent_by stop slot == stop.k
 -- a sweep's halts don't see what a slot makes of pauses
 pub done-sent : (slot client : ℕ) (state : ClientState)
     → done_halt slot client (after_sending slot state) ≡ done_halt slot client state
-done-sent slot client (Pausing stop rest) =
-    pausing-cases (λ s. done_halt slot client s ≡ []) slot stop rest refl refl
+done-sent slot client (Pausing stop rest) = pausing-cases (λ s. done_halt slot client s ≡ []) slot stop rest refl refl
 done-sent slot client _ = refl
 
 -- the slot of a plan that was sent last

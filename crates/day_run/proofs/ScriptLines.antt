@@ -118,8 +118,7 @@ pub run-more : (last : LastLine) (lines : List Line) (texts : List (List ℕ)) (
     → AreLineSteps last.link (lines ++ last.line ∷ []) (texts ++ last.text ∷ []) old last.new
 run-more last [] [] old run =
     (last.new, (subst (λ (m : DayState). IsLine last.link last.line m last.new last.text) run last.is, refl))
-run-more last (l ∷ lines) (t ∷ texts) old run =
-    (run.0, (run.1.0, run-more last lines texts run.0 run.1.1))
+run-more last (l ∷ lines) (t ∷ texts) old run = (run.0, (run.1.0, run-more last lines texts run.0 run.1.1))
 run-more last _ _ old run = absurd run
 
 flat-push : (texts : List (List ℕ)) (text : List ℕ)

@@ -53,8 +53,7 @@ sending-shares t slot (state ∷ states) later =
     )
 
 sending-play : (slot : ℕ) (state : ClientState) → playing_one (after_sending slot state) ≡ playing_one state
-sending-play slot (Pausing stop rest) =
-    pausing-cases (λ s. playing_one s ≡ 0) slot stop rest refl refl
+sending-play slot (Pausing stop rest) = pausing-cases (λ s. playing_one s ≡ 0) slot stop rest refl refl
 sending-play slot _ = refl
 
 sending-plays : (slot : ℕ) (states : List ClientState)
@@ -72,8 +71,7 @@ sending-plays slot (state ∷ states) =
 sending-held : (entries : List Entry) (c slot : ℕ) (state : ClientState) → AreHeldOf entries c state
     → AreHeldOf entries c (after_sending slot state)
 sending-held entries c slot (Playing play) its = its
-sending-held entries c slot (Pausing stop rest) its =
-    pausing-cases (AreHeldOf entries c) slot stop rest tt tt
+sending-held entries c slot (Pausing stop rest) its = pausing-cases (AreHeldOf entries c) slot stop rest tt tt
 sending-held entries c slot _ its = tt
 
 balanced-sending : (m : DayState) (slot : ℕ) → m.heard ≤ slot → IsBalanced m.entries m.states m.heard

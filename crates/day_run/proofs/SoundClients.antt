@@ -34,11 +34,9 @@ use Rattle.day_script.specs.Scripts.{IsWish}
 use Rattle.day_run.specs.ClientStates.{Idle, Playing, Pausing, Paused, IsPause, ClientPlay, Rest, ClientState}
 use Rattle.day_run.specs.ClientStates.{after_play, after_sending, booking_of, is_done, no_medium, sent_by, slot_sent}
 use Rattle.day_run.proofs.SentBookedLemmas.{HeldClient, its-held}
-use Rattle.day_run.proofs.LineOutcomes.{LineCase}
-use Rattle.day_run.proofs.LineOutcomes.{after_answer, halted_client, morning-ready, outcome-ready, slot-ready}
-use Rattle.day_run.proofs.LineOutcomes.{PlayHalted, line-outcome, taken-keeps, IsInOrder, LineOutcome}
-use Rattle.day_run.proofs.LineOutcomes.{PlaysBy, line-order, maker-inside}
-use Rattle.day_run.proofs.LineOutcomes.{Kept, Asked, Stopped, Looks, Reached}
+use Rattle.day_run.proofs.LineOutcomes.{LineCase, after_answer, halted_client, morning-ready, outcome-ready, slot-ready}
+use Rattle.day_run.proofs.LineOutcomes.{PlayHalted, line-outcome, taken-keeps, IsInOrder, LineOutcome, PlaysBy}
+use Rattle.day_run.proofs.LineOutcomes.{line-order, maker-inside, Kept, Asked, Stopped, Looks, Reached}
 use Rattle.day_run.proofs.ListUpdates.{set-at, set_place}
 use Rattle.day_run.proofs.PauseLemmas.{pausing-cases}
 use Rattle.day_run.proofs.ScriptLines.{LineStep, LinesTaken, StandingLine}
@@ -305,8 +303,7 @@ outcome-states step (Asked own at) order plays sound =
       plan_is = own.plan_is;
     }) sound own.made.answer own.made.noted.answered)
 outcome-states step (Stopped own at) order plays sound = halted-states step own order sound
-outcome-states step (Looks own at) order plays sound =
-    subst HasSoundClients (sym own.made.noted.new_is) sound.each
+outcome-states step (Looks own at) order plays sound = subst HasSoundClients (sym own.made.noted.new_is) sound.each
 outcome-states {case} step (Reached own) order plays sound =
     subst HasSoundClients (sym own.is) (slot-states step.old case.slot sound)
 
@@ -322,8 +319,7 @@ line-sound step line link-is standing sound is =
     }
 
 pub idle-sound : AreStates 0 (replicate 256 Idle)
-idle-sound c client =
-    subst (IsSoundClient 0) (sym (get_or-replicate 256 c Idle Idle client)) tt
+idle-sound c client = subst (IsSoundClient 0) (sym (get_or-replicate 256 c Idle Idle client)) tt
 
 pub day-sound : {link : SharedLink} (taken : LinesTaken link (length link.media)) (c : ℕ) → IsLink link → c < 256
     → IsSoundClient taken.moment.heard (state_at taken.moment c)

@@ -21,13 +21,11 @@ use Rattle.plan_cert.specs.PlanSlots.{sum_through, total_bytes}
 use Rattle.film_run.specs.Units.{AreUnitSizes}
 use Rattle.admission.specs.declared.book.TheConstants.{MAX_ENTRIES}
 use Rattle.day_run.specs.Days.{AreLineSteps, IsLine, IsTold, SharedLink, DayState, booked_up_to}
-use Rattle.day_run.specs.Days.{first_moment}
-use Rattle.day_run.specs.Days.{sent_up_to}
+use Rattle.day_run.specs.Days.{first_moment, sent_up_to}
 use Rattle.film_frames.specs.Tracks.{IsBoundary}
 use Rattle.film_run.specs.Plans.{CanPlay, IsPlanOf}
-use Rattle.day_run.specs.ClientStates.{ClientState, Idle, Playing, Pausing, Paused}
-use Rattle.day_run.specs.ClientStates.{ClientPlay, Rest}
-use Rattle.day_run.specs.ClientStates.{MediaContent, source_content}
+use Rattle.day_run.specs.ClientStates.{ClientState, Idle, Playing, Pausing, Paused, ClientPlay}
+use Rattle.day_run.specs.ClientStates.{Rest, MediaContent, source_content}
 use Rattle.day_run.specs.FairDays.{AreTurns, FairTurn, after_traces, at_later, fair_link}
 use Rattle.day_script.specs.LineTexts.{fair_text, start_words, tried_text}
 use Rattle.day_run.specs.declared.media.Source.{Source}
@@ -99,8 +97,7 @@ abbrev pub IsLeast : (ℕ → Type 0) → ℕ → ℕ → Option ℕ → Type 0
 IsLeast FitsAt first last (Some start) =
     (first ≤ start) × (start ≤ last) × FitsAt start
     × ((earlier : ℕ) → first ≤ earlier → earlier < start → ¬ FitsAt earlier)
-IsLeast FitsAt first last None =
-    (start : ℕ) → first ≤ start → start ≤ last → ¬ FitsAt start
+IsLeast FitsAt first last None = (start : ℕ) → first ≤ start → start ≤ last → ¬ FitsAt start
 
 -- so many starts were tried in vain, from the first one on
 abbrev pub IsCount : ℕ → ℕ → Option ℕ → ℕ → Type 0

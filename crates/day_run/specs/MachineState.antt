@@ -1,6 +1,5 @@
 -- What is true for a day between its lines.
-use Rattle.std.specs.Prelude.{ℕ, ◌≡◌, ◌≤◌, ◌++◌, List, Result, Ok, Err, length, map, drop}
-use Rattle.std.specs.Prelude.{flat_map}
+use Rattle.std.specs.Prelude.{ℕ, ◌≡◌, ◌≤◌, ◌++◌, List, Result, Ok, Err, length, map, drop, flat_map}
 use Rattle.admission.specs.declared.entries.Entry.{Entry}
 use Rattle.admission.specs.Histories.{state_after}
 use Rattle.early_start.specs.StartSearch.{Offers}

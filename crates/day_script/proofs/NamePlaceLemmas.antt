@@ -14,8 +14,7 @@ use Rattle.day_script.specs.ScriptReading.{Name, is_kind, is_name, known_place, 
 
 -- a name that is new comes next
 pub place-next : (names : List Name) (name : Name) → known_place names name ≡ None → source_in names name ≡ length names
-place-next names name new =
-    grind (arith, nat_tests, new, prefix_len-le-length (λ n. not (is_name name n)) names)
+place-next names name new = grind (arith, nat_tests, new, prefix_len-le-length (λ n. not (is_name name n)) names)
 
 -- one name more leaves the place of each other
 place-stays : (names : List Name) (more name : Name) → is_name name more ≡ false

@@ -24,8 +24,7 @@ use Rattle.day_script.specs.declared.script_reader.ScriptBuilder.{ScriptBuilder}
 use Rattle.day_script.specs.declared.script_reader.NameTable.{NameTable}
 use Rattle.day_script.specs.TextLines.{is_space, lines_of_script}
 use Rattle.day_script.specs.MessageWords.{message_in}
-use Rattle.day_script.specs.Scripts.{AreLines, latest_slot}
-use Rattle.day_script.specs.Scripts.{AreClients}
+use Rattle.day_script.specs.Scripts.{AreLines, latest_slot, AreClients}
 
 -- a film or trace by its name
 pub record Name : Type 0 where

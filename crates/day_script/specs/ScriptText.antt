@@ -1,7 +1,6 @@
 -- How the lines of a script are written.
 use Rattle.std.specs.Prelude.{ℕ, ◌≡◌, ◌≢◌, ◌+◌, ◌<◌, ◌≤◌, ◌^◌, ◌==◌, ◌&&◌, ◌||◌, max, nat_le, Bool}
-use Rattle.std.specs.Prelude.{true, List, [], ◌∷◌, ◌++◌, codes, decimal, length}
-use Rattle.std.specs.Prelude.{slice_index_or}
+use Rattle.std.specs.Prelude.{true, List, [], ◌∷◌, ◌++◌, codes, decimal, length, slice_index_or}
 use Rattle.std.specs.List.{fold, list_all}
 use Rattle.std.specs.Str.{bytes_eq}
 use Rattle.vod_base.specs.declared.links.TheConstants.{LATEST_SLOT}

@@ -9,15 +9,13 @@ use Rattle.mpeg_scan.specs.PictureRates.{picture_time}
 use Rattle.film_frames.specs.declared.pieces.Piece.{Piece}
 use Rattle.film_frames.specs.declared.pieces.Piece.TheVariants.{Report, Frame}
 use Rattle.rtp_pack.specs.Reports.{report_bytes, unit_report}
-use Rattle.film_frames.specs.Laws.{AreBlocks, IsBlock, HasPieceSize, HaveSizes, frames_among}
-use Rattle.film_frames.specs.Laws.{sequence_of}
+use Rattle.film_frames.specs.Laws.{AreBlocks, IsBlock, HasPieceSize, HaveSizes, frames_among, sequence_of}
 use Rattle.film_frames.specs.Pieces.{count_of, frames_in, octets_of, wire_of}
 use Rattle.film_frames.specs.FramedRuns.{HaveEnded, FramedRun, count_ended, interleaved_block, blocks_from, payload}
 use Rattle.film_frames.specs.FramedRuns.{piece_bytes, run_pieces, pieces_in}
 use Rattle.film_frames.specs.Tables.{IsSound}
 use Rattle.film_frames.proofs.PieceLemmas.{AreSound, sound-at}
-use Rattle.film_frames.proofs.RunBytesLemmas.{begin-cons, begin-next, blocks_from-at, blocks_from-count}
-use Rattle.film_frames.proofs.RunBytesLemmas.{piece-length}
+use Rattle.film_frames.proofs.RunBytesLemmas.{begin-cons, begin-next, blocks_from-at, blocks_from-count, piece-length}
 
 -- ---- sequence numbers
 

@@ -99,9 +99,4 @@ film-few film =
 
 pub film-bound : (film : Film) → sum (map (λ u. wire_size film.slice_starts.items u) film.units.items) ≤ 2 ^ 42
 film-bound film =
-    omega (
-      arith,
-      film-few film,
-      film-bytes film.bytes.items film.grammar.accepted,
-      units-bound (units-film film),
-    )
+    omega (arith, film-few film, film-bytes film.bytes.items film.grammar.accepted, units-bound (units-film film))

@@ -1,12 +1,9 @@
 -- The pieces of a film's first units.
-use Rattle.std.proofs.Common.{◌≡◌, ℕ, ◌+◌, ◌^◌, ◌<◌, ◌≤◌, List, [], ◌∷◌, ◌++◌, append_assoc, map}
-use Rattle.std.proofs.Common.{length, take, drop, get_or, Some, true, false, cond, slice_get, sym}
-use Rattle.std.proofs.Common.{ap, subst, ◌∙◌, arith}
-use Rattle.std.proofs.lemmas.List.{append-nil, map-append, map_more, take-append-drop, take-take}
-use Rattle.std.proofs.lemmas.List.{take_all, take_more}
+use Rattle.std.proofs.Common.{◌≡◌, ℕ, ◌+◌, ◌^◌, ◌<◌, ◌≤◌, List, [], ◌∷◌, ◌++◌, append_assoc, map, length, take, drop}
+use Rattle.std.proofs.Common.{get_or, Some, true, false, cond, slice_get, sym, ap, subst, ◌∙◌, arith}
+use Rattle.std.proofs.lemmas.List.{append-nil, map-append, map_more, take-append-drop, take-take, take_all, take_more}
 use Rattle.std.proofs.lemmas.List.Concat.{flat_map-append}
-use Rattle.std.proofs.lemmas.Option.{get_or_from_slice_get, slice_get-get_or, slice_get-map}
-use Rattle.std.proofs.lemmas.Option.{slice_get_within}
+use Rattle.std.proofs.lemmas.Option.{get_or_from_slice_get, slice_get-get_or, slice_get-map, slice_get_within}
 use Rattle.mpeg_scan.specs.declared.units.Unit.{Unit as PictureUnit}
 use Rattle.mpeg_scan.specs.declared.films.Film.{Film}
 use Rattle.rtp_pack.specs.declared.payloads.Packet.{Packet}
@@ -15,8 +12,7 @@ use Rattle.mpeg_scan.proofs.UnitLayoutLemmas.{laid-at}
 use Rattle.film_frames.specs.declared.pieces.Piece.{Piece}
 use Rattle.film_frames.specs.declared.pieces.Piece.TheVariants.{Report, Frame}
 use Rattle.film_frames.specs.declared.tables.FrameTable.{FrameTable}
-use Rattle.film_frames.specs.Pieces.{film_pieces, front_pieces, pieces_of, unit_pieces}
-use Rattle.film_frames.specs.Pieces.{unit_reports, wire_in}
+use Rattle.film_frames.specs.Pieces.{film_pieces, front_pieces, pieces_of, unit_pieces, unit_reports, wire_in}
 use Rattle.film_frames.specs.Tables.{HasRoom, IsSound, IsTable}
 use Rattle.film_frames.proofs.PieceLemmas.{AreSound, sound-at, sound-right, unit-sound, wire-append}
 use Rattle.film_frames.proofs.FilmPieceLemmas.{film-bound, film-wire, laid-film}
@@ -55,10 +51,7 @@ room units pieces table is most =
     is.place (length pieces) (omega arith) ∙ ap (λ l. wire_in l) (take_all (length pieces) pieces (omega arith)) in
     let place : get_or table.places.items (length table.rows.items) 0
     ≡ get_or table.places.items (length pieces) 0 = ap (λ n. get_or table.places.items n 0) is.rows_count in
-    record {
-      places_count = omega (arith, is.places_count, is.rows_count);
-      places = omega (arith, place, wire, most);
-    }
+    record { places_count = omega (arith, is.places_count, is.rows_count); places = omega (arith, place, wire, most) }
 
 -- ---- the frames of a unit, one after another
 

@@ -9,12 +9,7 @@ use Rattle.film_frames.specs.Tracks.{framed_bytes}
 use Rattle.film_frames.proofs.RunPieceLemmas.{UnitSpan, IsRun, all-short, run-count, run-total, sum-in-run}
 
 abbrev pub span_of : Inside → UnitSpan
-span_of f = record {
-  film = f.stored.now.film;
-  first_unit = f.first_unit;
-  end_unit = f.end_unit;
-  identity = f.identity;
-}
+span_of f = record { film = f.stored.now.film; first_unit = f.first_unit; end_unit = f.end_unit; identity = f.identity }
 
 -- its pieces are those between two numbers of its film's, and few
 pub record IsRunOf (f : Inside) (run : FramedRun) : Type 0 where
@@ -59,5 +54,4 @@ in-film {f} {run} {first} {piece} has known =
 pub total-from : {f : Inside} {run : FramedRun} {first : ℕ} → IsRunOf f run
     → first ≡ length (front_pieces f.stored.now.film f.first_unit)
     → wire_in (take first (film_pieces f.stored.now.film)) + length (framed_bytes (run_pieces run)) ≤ 2 ^ 42
-total-from {f} {run} has at =
-    rw at (run-total (span_of f) run has.is)
+total-from {f} {run} has at = rw at (run-total (span_of f) run has.is)

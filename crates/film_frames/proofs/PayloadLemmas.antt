@@ -16,15 +16,12 @@ use Rattle.rtp_pack.proofs.UnitPacketLemmas.{packets-cover}
 use Rattle.film_frames.specs.declared.pieces.Piece.{Piece}
 use Rattle.film_frames.specs.declared.pieces.Piece.TheVariants.{Report, Frame}
 use Rattle.film_frames.specs.Laws.{frames_among, payloads, run_frames}
-use Rattle.film_frames.specs.Pieces.{octets_of, pieces_of, unit_pieces, unit_reports, wire_in}
-use Rattle.film_frames.specs.Pieces.{wire_size}
-use Rattle.film_frames.specs.FramedRuns.{FramedRun, blocks_from, payload, piece_bytes, run_of, run_pieces}
-use Rattle.film_frames.specs.FramedRuns.{pieces_in}
+use Rattle.film_frames.specs.Pieces.{octets_of, pieces_of, unit_pieces, unit_reports, wire_in, wire_size}
+use Rattle.film_frames.specs.FramedRuns.{FramedRun, blocks_from, payload, piece_bytes, run_of, run_pieces, pieces_in}
 use Rattle.film_frames.specs.Tracks.{framed_bytes}
 use Rattle.film_frames.proofs.TrackLemmas.{begin-all}
 use Rattle.film_frames.proofs.PieceLemmas.{AreSound, cover-le, pieces-cons, unit-le}
-use Rattle.film_frames.proofs.FilmPieceLemmas.{AreUnits, units-le}
-use Rattle.film_frames.proofs.FilmPieceLemmas.{film-from, film-in_order, laid-film, units-wire}
+use Rattle.film_frames.proofs.FilmPieceLemmas.{AreUnits, units-le, film-from, film-in_order, laid-film, units-wire}
 use Rattle.film_frames.proofs.RunBytesLemmas.{blocks_from-count}
 use Rattle.film_frames.proofs.RunPieceLemmas.{UnitSpan, IsRun, between, run-begin}
 

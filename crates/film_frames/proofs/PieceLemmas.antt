@@ -1,20 +1,17 @@
 -- The pieces of units that are laid out in a film.
-use Rattle.std.proofs.Common.{◌≡◌, ℕ, zero, suc, ◌+◌, ◌-◌, ◌*◌, ◌≤◌, Bool, true, false, cond, List}
-use Rattle.std.proofs.Common.{[], ◌∷◌, ◌++◌, map, length, Some, slice_get, refl, sym, ap, subst}
-use Rattle.std.proofs.Common.{◌∙◌, arith}
+use Rattle.std.proofs.Common.{◌≡◌, ℕ, zero, suc, ◌+◌, ◌-◌, ◌*◌, ◌≤◌, Bool, true, false, cond, List, [], ◌∷◌, ◌++◌, map}
+use Rattle.std.proofs.Common.{length, Some, slice_get, refl, sym, ap, subst, ◌∙◌, arith}
 use Rattle.std.proofs.lemmas.List.Concat.{flat_map-cons}
 use Rattle.std.proofs.lemmas.List.Sums.{sum_by-append, sum_by-cons}
 use Rattle.rtp_pack.specs.declared.reports.TheConstants.{REPORT_BYTES}
 use Rattle.rtp_pack.specs.declared.sizes.TheConstants.{FRAME_HEAD_BYTES}
 use Rattle.mpeg_scan.specs.declared.units.Unit.{Unit as PictureUnit}
 use Rattle.rtp_pack.specs.declared.payloads.Packet.{Packet}
-use Rattle.rtp_pack.specs.Packets.{DoCover, IsLaid, frames_size, portion_packets, unit_packets}
-use Rattle.rtp_pack.specs.Packets.{unit_starts}
+use Rattle.rtp_pack.specs.Packets.{DoCover, IsLaid, frames_size, portion_packets, unit_packets, unit_starts}
 use Rattle.rtp_pack.proofs.UnitPacketLemmas.{packets-are, packets-bound, packets-cover, packets-size}
 use Rattle.film_frames.specs.declared.pieces.Piece.{Piece}
 use Rattle.film_frames.specs.declared.pieces.Piece.TheVariants.{Report, Frame}
-use Rattle.film_frames.specs.Pieces.{pieces_of, unit_pieces, unit_reports, wire_in, wire_of}
-use Rattle.film_frames.specs.Pieces.{wire_size}
+use Rattle.film_frames.specs.Pieces.{pieces_of, unit_pieces, unit_reports, wire_in, wire_of, wire_size}
 use Rattle.film_frames.specs.Tables.{IsSound}
 
 -- ---- what each piece is
@@ -60,12 +57,7 @@ frames-sound {film} {unit} {starts} {cuts = cut ∷ cuts} {to} pieces =
     let cover = pieces.cover in
     let rest = cover-le (portion_packets unit starts cut cuts) cut to cover.1.1.1 in
     let later : DoPiecesCover film unit starts cuts cut to = record { short = pieces.short; cover = cover.1.1.1 } in (
-      record {
-        some = cover.1.0;
-        short = cover.1.1.0;
-        within = omega (arith, rest, pieces.short);
-        formed = refl;
-      },
+      record { some = cover.1.0; short = cover.1.1.0; within = omega (arith, rest, pieces.short); formed = refl },
       frames-sound {cuts = cuts} later,
     )
 

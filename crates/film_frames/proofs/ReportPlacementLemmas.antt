@@ -1,14 +1,12 @@
 -- Where the reports of a run stand.
-use Rattle.std.proofs.Common.{◌≡◌, ℕ, ◌-◌, ◌<◌, ◌≤◌, Bool, true, false, cond, List, [], ◌∷◌}
-use Rattle.std.proofs.Common.{◌++◌, map}
-use Rattle.std.proofs.Common.{length, take, drop, refl, sym, subst, arith}
+use Rattle.std.proofs.Common.{◌≡◌, ℕ, ◌-◌, ◌<◌, ◌≤◌, Bool, true, false, cond, List, [], ◌∷◌, ◌++◌, map, length, take}
+use Rattle.std.proofs.Common.{drop, refl, sym, subst, arith}
 use Rattle.mpeg_scan.specs.declared.units.Unit.{Unit as PictureUnit}
 use Rattle.mpeg_scan.specs.declared.films.Film.{Film}
 use Rattle.mpeg_scan.specs.Layout.{AreLaid}
 use Rattle.rtp_pack.specs.declared.payloads.Packet.{Packet}
 use Rattle.rtp_pack.specs.declared.reports.Identity.{Identity}
-use Rattle.rtp_pack.specs.Packets.{AreInOrder, DoCover, IsLaid, next_place, unit_packets}
-use Rattle.rtp_pack.specs.Packets.{unit_starts}
+use Rattle.rtp_pack.specs.Packets.{AreInOrder, DoCover, IsLaid, next_place, unit_packets, unit_starts}
 use Rattle.rtp_pack.proofs.UnitPacketLemmas.{packets-cover}
 use Rattle.film_frames.specs.declared.pieces.Piece.{Piece}
 use Rattle.film_frames.specs.declared.pieces.Piece.TheVariants.{Report, Frame}

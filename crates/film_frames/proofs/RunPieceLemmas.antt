@@ -1,7 +1,6 @@
 -- The pieces of a run among those of its film.
-use Rattle.std.proofs.Common.{◌≡◌, ℕ, zero, suc, ◌+◌, ◌-◌, ◌^◌, ◌<◌, ◌≤◌, List, [], ◌∷◌, ◌++◌}
-use Rattle.std.proofs.Common.{append_assoc, length, take, drop, get_or, slice_get, refl, sym, ap}
-use Rattle.std.proofs.Common.{subst, ◌∙◌, arith, length-append}
+use Rattle.std.proofs.Common.{◌≡◌, ℕ, zero, suc, ◌+◌, ◌-◌, ◌^◌, ◌<◌, ◌≤◌, List, [], ◌∷◌, ◌++◌, append_assoc, length}
+use Rattle.std.proofs.Common.{take, drop, get_or, slice_get, refl, sym, ap, subst, ◌∙◌, arith, length-append}
 use Rattle.std.specs.List.{sum_by}
 use Rattle.std.proofs.lemmas.List.{drop-take, take-append-le, take_at}
 use Rattle.std.proofs.lemmas.List.Sums.{sum_by-append, sum_by-take-le}
@@ -9,8 +8,7 @@ use Rattle.std.proofs.Math.Seq.{take-append-add}
 use Rattle.mpeg_scan.specs.declared.films.Film.{Film}
 use Rattle.rtp_pack.specs.declared.reports.Identity.{Identity}
 use Rattle.film_frames.specs.declared.pieces.Piece.{Piece}
-use Rattle.film_frames.specs.Pieces.{film_pieces, front_pieces, pieces_of}
-use Rattle.film_frames.specs.Pieces.{wire_in, wire_of}
+use Rattle.film_frames.specs.Pieces.{film_pieces, front_pieces, pieces_of, wire_in, wire_of}
 use Rattle.film_frames.specs.FramedRuns.{FramedRun, run_of, run_pieces, pieces_in}
 use Rattle.film_frames.specs.Tracks.{begin_of, framed_bytes}
 use Rattle.film_frames.proofs.TrackLemmas.{AreEnds, begin-all}

@@ -1,7 +1,6 @@
 -- Prefixes of a run, the bytes of a unit among those of a run, and the heads of frames read back.
-use Rattle.std.proofs.Common.{◌≡◌, ℕ, zero, suc, ◌+◌, ◌-◌, ◌%◌, ◌^◌, ◌<◌, ◌≤◌, Bool, true, false}
-use Rattle.std.proofs.Common.{List, [], ◌∷◌, ◌++◌, map, sum, length, take, drop, Some, Ok, rules}
-use Rattle.std.proofs.Common.{slice_get, refl, sym, ap, ◌∙◌, arith}
+use Rattle.std.proofs.Common.{◌≡◌, ℕ, zero, suc, ◌+◌, ◌-◌, ◌%◌, ◌^◌, ◌<◌, ◌≤◌, Bool, true, false, List, [], ◌∷◌, ◌++◌}
+use Rattle.std.proofs.Common.{map, sum, length, take, drop, Some, Ok, rules, slice_get, refl, sym, ap, ◌∙◌, arith}
 use Rattle.std.proofs.lemmas.List.{take-append-drop, take-take}
 use Rattle.std.proofs.lemmas.List.Concat.{flat_map-append}
 use Rattle.std.proofs.lemmas.List.Sums.{sum_by-cons}
@@ -13,10 +12,8 @@ use Rattle.rtp_pack.specs.Heads.{head_bytes, head_of, packet_head}
 use Rattle.film_frames.specs.declared.pieces.Piece.{Piece}
 use Rattle.film_frames.specs.declared.pieces.Piece.TheVariants.{Report, Frame}
 use Rattle.film_frames.specs.Laws.{HeadsRoundTrip}
-use Rattle.film_frames.specs.Pieces.{count_of, frames_in, octets_in, octets_of, pieces_of}
-use Rattle.film_frames.specs.Pieces.{unit_pieces, wire_size}
-use Rattle.film_frames.specs.FramedRuns.{FramedRun, blocks_from, payload, piece_bytes, run_of, run_pieces}
-use Rattle.film_frames.specs.FramedRuns.{pieces_in}
+use Rattle.film_frames.specs.Pieces.{count_of, frames_in, octets_in, octets_of, pieces_of, unit_pieces, wire_size}
+use Rattle.film_frames.specs.FramedRuns.{FramedRun, blocks_from, payload, piece_bytes, run_of, run_pieces, pieces_in}
 use Rattle.film_frames.specs.Tracks.{framed_bytes}
 use Rattle.film_frames.proofs.PayloadLemmas.{get-drop, run-sum}
 use Rattle.film_frames.proofs.RunBytesLemmas.{blocks_from-at, blocks_from-count}

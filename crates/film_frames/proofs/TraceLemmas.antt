@@ -2,9 +2,8 @@
 use Rattle.std.proofs.Common.{◌≡◌, ℕ, zero, suc, ◌+◌, ◌-◌, ◌<◌, ◌≤◌, ◌^◌, List, [], ◌∷◌, length}
 use Rattle.std.proofs.Common.{take, drop, set, get_or, refl, sym, ap, subst, ◌∙◌, arith, inl, inr}
 use Rattle.std.proofs.Common.{Some, slice_get, length-append, sum, replicate}
-use Rattle.std.proofs.lemmas.List.{take-map, length-map, length-replicate, same_lists}
-use Rattle.std.proofs.lemmas.List.{get_or_default, get_or-map, get_or_read, length-set}
-use Rattle.std.proofs.lemmas.List.{get_or-set_same, get_or-set_other, drop-replicate}
+use Rattle.std.proofs.lemmas.List.{take-map, length-map, length-replicate, same_lists, get_or_default, get_or-map}
+use Rattle.std.proofs.lemmas.List.{get_or_read, length-set, get_or-set_same, get_or-set_other, drop-replicate}
 use Rattle.std.proofs.lemmas.List.{take-replicate}
 use Rattle.std.proofs.lemmas.List.Sums.{sum_by-cons, sum_by-take-le, sum_by_more, sum_by_more_le}
 use Rattle.std.proofs.lemmas.Bool.{cases_lt, cases_eq}

@@ -1,16 +1,12 @@
 -- The bytes of a picture.
-use Rattle.std.proofs.Common.{ℕ, cond, eqb, ◌+◌, ◌*◌, ◌%◌, ◌<◌, ◌≤◌, ◌≡◌, List, [], ◌∷◌}
-use Rattle.std.proofs.Common.{◌++◌}
-use Rattle.std.proofs.Common.{length, refl, ◌∙◌, ap, arith, eq-eqb, ne_eqb}
+use Rattle.std.proofs.Common.{ℕ, cond, eqb, ◌+◌, ◌*◌, ◌%◌, ◌<◌, ◌≤◌, ◌≡◌, List, [], ◌∷◌, ◌++◌, length, refl, ◌∙◌, ap}
+use Rattle.std.proofs.Common.{arith, eq-eqb, ne_eqb}
 use Rattle.std.proofs.lemmas.List.{length-append}
 use Rattle.std.proofs.lemmas.List.FromFn.{length-map-range_with_len}
 use Rattle.film_make.specs.declared.pictures.CodingType.{CodingType}
-use Rattle.film_make.specs.declared.pictures.CodingType.TheVariants.{Intra, Predicted}
-use Rattle.film_make.specs.declared.pictures.CodingType.TheVariants.{Bidirectional}
-use Rattle.film_make.specs.Film.{body_length, body_of, coding_type, in_bytes}
-use Rattle.film_make.specs.Film.{picture_fields, picture_header, picture_of, sequence_and_group}
-use Rattle.film_make.specs.Film.{slice_of}
-use Rattle.film_make.specs.Film.{slice_words, slices_of, temporal_reference}
+use Rattle.film_make.specs.declared.pictures.CodingType.TheVariants.{Intra, Predicted, Bidirectional}
+use Rattle.film_make.specs.Film.{body_length, body_of, coding_type, in_bytes, picture_fields, picture_header}
+use Rattle.film_make.specs.Film.{picture_of, sequence_and_group, slice_of, slice_words, slices_of, temporal_reference}
 use Rattle.film_make.specs.Generator.{words_after, end_to_end}
 
 -- a slice of a kind of picture has a length within these bounds

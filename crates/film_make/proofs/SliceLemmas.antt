@@ -35,21 +35,7 @@ slices-are words kind =
             body 1,
             (
               s 2 ++ (s 3 ++ []),
-              (
-                refl,
-                is 1,
-                (
-                  body 2,
-                  (
-                    s 3 ++ [],
-                    (
-                      refl,
-                      is 2,
-                      (body 3, ([], (refl, is 3, refl))),
-                    ),
-                  ),
-                ),
-              ),
+              (refl, is 1, (body 2, (s 3 ++ [], (refl, is 2, (body 3, ([], (refl, is 3, refl))))))),
             ),
           ),
         ),

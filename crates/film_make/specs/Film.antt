@@ -48,8 +48,7 @@ picture_fields Bidirectional tr =
 
 -- the picture header of picture j of a group
 unfoldable pub picture_header : ℕ → List ℕ
-picture_header j =
-    0 ∷ 0 ∷ 1 ∷ 0 ∷ in_bytes (picture_fields (coding_type j) (temporal_reference j))
+picture_header j = 0 ∷ 0 ∷ 1 ∷ 0 ∷ in_bytes (picture_fields (coding_type j) (temporal_reference j))
 
 -- the least length of a slice's body, and how many lengths there are from it on
 abbrev pub least_body : CodingType → ℕ
@@ -76,8 +75,7 @@ body_of words n = map (λ i. 128 + words i % 128) (range_with_len 0 n)
 
 -- a slice: its start code, and its body, whose length is drawn before its bytes
 unfoldable pub slice_of : (ℕ → ℕ) → CodingType → ℕ → List ℕ
-slice_of words kind code =
-    0 ∷ 0 ∷ 1 ∷ code ∷ body_of (words_after 1 words) (body_length words kind)
+slice_of words kind code = 0 ∷ 0 ∷ 1 ∷ code ∷ body_of (words_after 1 words) (body_length words kind)
 
 -- the words from which slice s of a picture is drawn
 unfoldable pub slice_words : CodingType → (ℕ → ℕ) → ℕ → ℕ → ℕ

@@ -5,8 +5,7 @@ use Rattle.film_make.specs.Generator.{end_to_end}
 
 -- a pack header (2.4.3.2)
 abbrev pub pack_header : List ℕ
-pack_header =
-    0 ∷ 0 ∷ 1 ∷ 0xba ∷ 0x21 ∷ 0x00 ∷ 0x01 ∷ 0x00 ∷ 0x01 ∷ 0x80 ∷ 0x00 ∷ 0x03 ∷ []
+pack_header = 0 ∷ 0 ∷ 1 ∷ 0xba ∷ 0x21 ∷ 0x00 ∷ 0x01 ∷ 0x00 ∷ 0x01 ∷ 0x80 ∷ 0x00 ∷ 0x03 ∷ []
 
 -- a pack of one packet (2.4.3.3) of video stream 0 without time stamps: its length counts the byte
 -- 0F and the video bytes

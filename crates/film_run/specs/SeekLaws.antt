@@ -21,12 +21,10 @@ seconds_of film = (slice_index_or picture_rates (film.rate - 1) (1, 1)).1
 
 -- the time of so many pictures is over by a time in nanoseconds, or lasts until then at least
 abbrev pub ArePastBy : Film → ℕ → ℕ → Type 0
-ArePastBy film pictures time =
-    pictures * seconds_of film * 1000000000 ≤ time * pictures_in film
+ArePastBy film pictures time = pictures * seconds_of film * 1000000000 ≤ time * pictures_in film
 
 abbrev pub LastUntil : Film → ℕ → ℕ → Type 0
-LastUntil film pictures time =
-    time * pictures_in film ≤ pictures * seconds_of film * 1000000000
+LastUntil film pictures time = time * pictures_in film ≤ pictures * seconds_of film * 1000000000
 
 -- a run ends with the film where no end is asked for, or else with the first later group, or the
 -- film, before which all pictures last until the time that is asked for

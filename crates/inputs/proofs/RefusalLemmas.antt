@@ -7,8 +7,7 @@ use Rattle.cli_errors.specs.ReadErrors.{IsReadError}
 use Rattle.cli_errors.specs.declared.errors.InputError.{InputError}
 use Rattle.cli_errors.specs.declared.errors.InputError.TheVariants.{Film, System}
 use Rattle.cli_errors.specs.declared.errors.CliError.{CliError}
-use Rattle.cli_errors.specs.declared.errors.CliError.TheVariants.{Refused}
-use Rattle.cli_errors.specs.declared.errors.CliError.TheVariants.{NoMemory}
+use Rattle.cli_errors.specs.declared.errors.CliError.TheVariants.{Refused, NoMemory}
 use Rattle.inputs.specs.FileReads.{IsThatName}
 use Rattle.inputs.specs.LoadErrors.{IsFilmFault, IsFilmError, IsRefusal, IsSystemFault}
 

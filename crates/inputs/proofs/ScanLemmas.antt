@@ -70,13 +70,7 @@ plain_refused {bytes} file found refused =
     let same : opened.file ≡ bytes = one_file file.held file.name opened.file bytes opened.found found in
     inr (
       opened.file,
-      (
-        opened.found,
-        inr (
-          file_short file,
-          (opened.file, (plain_video file, ap refusal same ∙ refused)),
-        ),
-      ),
+      (opened.found, inr (file_short file, (opened.file, (plain_video file, ap refusal same ∙ refused)))),
     )
 
 -- a scanner that is fed a chunk

@@ -177,10 +177,5 @@ film-limits film rate accepted is =
       slowest = omega (arith, is, its.0);
       fastest = omega (arith, is, its.1);
       few = omega (arith, length-map units (λ u. wire_size starts u), few);
-      few_bytes = omega (
-        arith,
-        few,
-        film-bytes film accepted,
-        units-bound are,
-      );
+      few_bytes = omega (arith, few, film-bytes film accepted, units-bound are);
     }

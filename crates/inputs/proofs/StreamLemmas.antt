@@ -1,7 +1,6 @@
 -- A system stream that is unwrapped and scanned chunk by chunk.
-use Rattle.std.proofs.Common.{◌≡◌, ℕ, ◌+◌, ◌-◌, ◌≤◌, ◌^◌, List, [], ◌∷◌, ◌++◌, append_assoc, length, take}
-use Rattle.std.proofs.Common.{drop, replicate, Some, None, Option, inl, inr, refl, sym, ap, ◌∙◌, arith, subst}
-use Rattle.std.proofs.Common.{length-append}
+use Rattle.std.proofs.Common.{◌≡◌, ℕ, ◌+◌, ◌-◌, ◌≤◌, ◌^◌, List, [], ◌∷◌, ◌++◌, append_assoc, length, take, drop}
+use Rattle.std.proofs.Common.{replicate, Some, None, Option, inl, inr, refl, sym, ap, ◌∙◌, arith, subst, length-append}
 use Rattle.std.proofs.lemmas.List.{length-take-le, length-drop, length-replicate, append-nil, take-append-drop}
 use Rattle.std.proofs.Math.Seq.{drop-append_seam, take-add}
 use Rattle.vod_base.specs.IoState.{File, file_named}
@@ -136,10 +135,7 @@ stream_fault {from} {own} {fault} file refused moves =
       bytes,
       (
         opened.found,
-        inr (
-          file_short file,
-          subst (λ (o : Option ℕ). IsStreamFaultFrom o bytes fault) (sym opened.pack) its,
-        ),
+        inr (file_short file, subst (λ (o : Option ℕ). IsStreamFaultFrom o bytes fault) (sym opened.pack) its),
       ),
     )
 

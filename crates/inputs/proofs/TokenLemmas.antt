@@ -1,8 +1,7 @@
 -- The tokens of a text, from the beginning on, and the traces that they write.
-use Rattle.std.proofs.Common.{◌≡◌, ℕ, ◌+◌, ◌-◌, ◌<◌, ◌≤◌, ◌^◌, Bool, true, false, not, List, [], ◌∷◌, ◌++◌}
-use Rattle.std.proofs.Common.{length, take, drop, map, sum, Some, Option, refl, sym, ap, ◌∙◌, arith, add-zero}
-use Rattle.std.proofs.Common.{min, ◌&&◌, subst, inl, inr, if◌then◌else◌, slice_range, get_or, length-append}
-use Rattle.std.proofs.Common.{length-drop}
+use Rattle.std.proofs.Common.{◌≡◌, ℕ, ◌+◌, ◌-◌, ◌<◌, ◌≤◌, ◌^◌, Bool, true, false, not, List, [], ◌∷◌, ◌++◌, length}
+use Rattle.std.proofs.Common.{take, drop, map, sum, Some, Option, refl, sym, ap, ◌∙◌, arith, add-zero, min, ◌&&◌, subst}
+use Rattle.std.proofs.Common.{inl, inr, if◌then◌else◌, slice_range, get_or, length-append, length-drop}
 use Rattle.std.proofs.lemmas.Bool.{and_parts, not-true, not-false, cases_lt}
 use Rattle.std.proofs.lemmas.List.{take-append-drop, drop-drop, length-take-le, take_all, map-append, append_assoc}
 use Rattle.std.proofs.Math.Seq.{get_or-append_seam}

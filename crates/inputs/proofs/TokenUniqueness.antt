@@ -90,10 +90,7 @@ word_front {b} {begins = false} at rest tokens byte h = (
     (
       refl,
       refl,
-      (
-        omega arith,
-        and_from (not (is_white_space b)) true (not_from_false (is_white_space b) byte.word) refl,
-      ),
+      (omega arith, and_from (not (is_white_space b)) true (not_from_false (is_white_space b) byte.word) refl),
       byte.begins_is,
       omega arith,
       h,

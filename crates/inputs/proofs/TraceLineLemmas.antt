@@ -86,11 +86,7 @@ pub lines_same : (sizes read : List ℕ) → All (λ size. size < 2 ^ 64) sizes 
 lines_same sizes read small is = same_somes read sizes (sym is.numbers ∙ numbers_read sizes small)
 
 limits_of : (sizes : List ℕ) → IsTraceText (trace_text sizes) sizes → AreWithinLimits sizes
-limits_of sizes is = record {
-  pictures = is.few;
-  each = is.small;
-  together = is.few_bytes;
-}
+limits_of sizes is = record { pictures = is.few; each = is.small; together = is.few_bytes }
 
 pub lines_within : (sizes read : List ℕ) → All (λ size. size < 2 ^ 64) sizes → IsTraceText (trace_text sizes) read
     → AreWithinLimits sizes

@@ -55,5 +55,4 @@ file_not_refused {held} {name} {video} over fault holds short (inr other) =
 -- what is accepted isn't refused
 pub held_not_refused : (held : List File) (name video : List ℕ) (fault : InputError) → HoldsVideo held name video
     → IsFilmRefused held name fault → ⊥
-held_not_refused held name video fault holds refused =
-    file_not_refused (Film TooLong) fault holds holds.short refused
+held_not_refused held name video fault holds refused = file_not_refused (Film TooLong) fault holds holds.short refused

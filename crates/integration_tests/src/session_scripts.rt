@@ -4,8 +4,7 @@ ghost use Rattle.std.specs.Prelude.{◌≡◌, IfOk, length, true};
 ghost use Rattle.interleave.specs.Elements.{IsMessageLength};
 ghost use Rattle.film_streams.specs.SettingRanges.{AreFilms};
 ghost use Rattle.session.specs.SessionStates.{AsksFor, AwaitsNoAnswer, IsHalt, IsLook, IsOffer};
-ghost use Rattle.session.specs.SessionStates.{IsPlay};
-ghost use Rattle.session.specs.SessionStates.{awaited_answer, open_of};
+ghost use Rattle.session.specs.SessionStates.{IsPlay, awaited_answer, open_of};
 
 use crate::films::server_films;
 use crate::script_text::{compare_front, expect, numbers_of, payload_of, word_and_rest};

@@ -28,8 +28,7 @@ AreLineEnds-append w v n more h = record {
 }
 
 pub block_length-append : (w v : List ℕ) → 4 ≤ length w → block_length (w ++ v) ≡ block_length w
-block_length-append w v h =
-    rw (get_or_append_left w v 0 2 (omega arith), get_or_append_left w v 0 3 (omega arith)) refl
+block_length-append w v h = rw (get_or_append_left w v 0 2 (omega arith), get_or_append_left w v 0 3 (omega arith)) refl
 
 pub whole_stays : (w v : List ℕ) (answer : Result Step DemuxFault) → IsFirst w answer → IsWholeElement w answer
     → IsFirst (w ++ v) answer

@@ -33,8 +33,7 @@ read_value {head} {text} {at} {text_end} {next} (Some n) line same h =
 
 -- a line of that name has all its bytes of the name
 pub name_within : (head : List ℕ) (at : ℕ) → IsLengthLine head at → at + 15 ≤ length head
-name_within head at h =
-    let e = simp (length-map, length-take, length-drop) at (ap length h.name) in omega (arith, e)
+name_within head at h = let e = simp (length-map, length-take, length-drop) at (ap length h.name) in omega (arith, e)
 
 -- no line of that name begins anywhere
 pub no_line : (head : List ℕ) → ((k : ℕ) → k < length head → ¬ IsLengthLine head k) → (k : ℕ) → ¬ IsLengthLine head k

@@ -6,9 +6,8 @@ use Rattle.std.proofs.lemmas.List.{take-append-le, drop-append-le, get_or_append
 use Rattle.std.proofs.lemmas.List.{append-nil}
 use Rattle.interleave.specs.Heads.{is_line_end}
 use Rattle.interleave.specs.Elements.{IsFirst}
-use Rattle.interleave.specs.Streams.{IsElementLength, LineEnd, WholeBlock, WholeMessage, AreInputElements, GoesOn, SharePrefix}
-use Rattle.interleave.specs.Streams.{IsStream}
-use Rattle.interleave.specs.Streams.{returned_elements, returned_length, ReturnsNoElement}
+use Rattle.interleave.specs.Streams.{IsElementLength, LineEnd, WholeBlock, WholeMessage, AreInputElements, GoesOn}
+use Rattle.interleave.specs.Streams.{SharePrefix, IsStream, returned_elements, returned_length, ReturnsNoElement}
 use Rattle.interleave.specs.declared.elements.Step.{Step}
 use Rattle.interleave.specs.declared.elements.Step.TheVariants.{Request, Block, Skip, More}
 use Rattle.interleave.specs.declared.elements.DemuxFault.{DemuxFault}
@@ -60,12 +59,7 @@ cut_grows w v (element ∷ elements) rest (n, cut) =
     let after : drop n (w ++ v) ≡ drop n w ++ v = drop-append-le n w v inside in
     let P : List ℕ → Type 0 = λ xs. AreInputElements xs elements (rest ++ v) in (
       n,
-      (
-        element_stays w v n cut.0,
-        cut.1
-            ∙ sym front,
-        subst P (sym after) (cut_grows (drop n w) v elements rest cut.2),
-      ),
+      (element_stays w v n cut.0, cut.1 ∙ sym front, subst P (sym after) (cut_grows (drop n w) v elements rest cut.2)),
     )
 
 -- one element more
@@ -76,11 +70,7 @@ cut_more w [] rest n same element =
     let P : List ℕ
     → Type 0 = λ xs. AreInputElements xs (take n rest ∷ []) (drop n rest) in subst P (sym same) (
       n,
-      (
-        element,
-        refl,
-        refl,
-      ),
+      (element, refl, refl),
     )
 cut_more w (first ∷ elements) rest n (m, cut) element =
     (m, (cut.0, cut.1, cut_more (drop m w) elements rest n cut.2 element))
@@ -167,8 +157,7 @@ skips w ps (c ∷ cs) (suc n) cut ends =
     let more = skips w (ps ++ (c ∷ []) ∷ []) cs n next
     (record {
       within = omega (arith, ends.within);
-      line_ends =
-          λ k below. ends.line_ends (suc k) (omega (arith, below));
+      line_ends = λ k below. ends.line_ends (suc k) (omega (arith, below));
     }) in
     let P : List (List ℕ) → Type 0 = λ xs. AreInputElements w xs (drop n cs) in
     subst P (append_assoc ps ((c ∷ []) ∷ []) (map (λ x. x ∷ []) (take n cs))) more

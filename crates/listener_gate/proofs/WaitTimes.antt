@@ -24,8 +24,7 @@ tail_waits : (ms : ℕ) (tries : List FailedTry) →
     waits_of (failed_tries ms tries ++ Accepted ∷ []) ≡ waits_of (failed_tries ms tries)
 tail_waits ms [] = refl
 tail_waits ms (RetriedAtOnce ∷ tries) = tail_waits ms tries
-tail_waits ms (RetriedAfterWait ∷ tries) =
-    ap (λ (l : List ℕ). ms ∷ l) (tail_waits (longer_wait ms) tries)
+tail_waits ms (RetriedAfterWait ∷ tries) = ap (λ (l : List ℕ). ms ∷ l) (tail_waits (longer_wait ms) tries)
 
 waits-are : (n ms : ℕ) (tries : List FailedTry) (i : ℕ) → ms ≡ wait_number n →
     i < length (waits_of (failed_tries ms tries)) →

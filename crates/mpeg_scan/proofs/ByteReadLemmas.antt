@@ -1,12 +1,10 @@
 -- Bytes read one after another, runs that change nothing but the place, and what stays refused.
-use Rattle.std.proofs.Common.{ℕ, suc, Bool, true, false, cond, eqb, ◌+◌, ◌-◌, ◌<◌, ◌≤◌, ◌≡◌}
-use Rattle.std.proofs.Common.{List, [], ◌∷◌, ◌++◌, Option, None, Some, length, take, drop, get_or, sym}
-use Rattle.std.proofs.Common.{subst}
+use Rattle.std.proofs.Common.{ℕ, suc, Bool, true, false, cond, eqb, ◌+◌, ◌-◌, ◌<◌, ◌≤◌, ◌≡◌, List, [], ◌∷◌, ◌++◌}
+use Rattle.std.proofs.Common.{Option, None, Some, length, take, drop, get_or, sym, subst, ◌∙◌, ap, refl, inl, inr}
+use Rattle.std.proofs.Common.{arith}
 use Rattle.std.specs.Option.{option_map}
-use Rattle.std.proofs.Common.{◌∙◌, ap, refl, inl, inr, arith}
 use Rattle.std.proofs.lemmas.Bool.{cases_Bool, ne_eqb}
-use Rattle.std.proofs.lemmas.List.{take_more, take_rest, get_or-take, length-take-le, length-drop}
-use Rattle.std.proofs.lemmas.List.{take-append-drop}
+use Rattle.std.proofs.lemmas.List.{take_more, take_rest, get_or-take, length-take-le, length-drop, take-append-drop}
 use Rattle.std.proofs.Math.Seq.{take-add}
 use Rattle.mpeg_scan.specs.declared.codes.Code.{Code}
 use Rattle.mpeg_scan.specs.declared.codes.Prefix.{Prefix}
@@ -81,10 +79,7 @@ header-none None = refl
 header-none (Some c) = refl
 
 run-is : {s : Progress} (xs : List ℕ) → IsRun s xs
-    → scan_with_run s xs ≡ record s {
-      fed = s.fed + length xs;
-      latest = option_map (λ c. note_all c xs) s.latest;
-    }
+    → scan_with_run s xs ≡ record s { fed = s.fed + length xs; latest = option_map (λ c. note_all c xs) s.latest }
 run-is {s} [] run =
     let none : s.fed ≡ s.fed + 0 = omega arith in
     ap (λ n. record s { fed = n }) none

@@ -3,8 +3,7 @@ use Rattle.std.proofs.Common.{ℕ, suc, Bool, true, false, cond, eqb, ◌+◌, �
 use Rattle.std.proofs.Common.{List, [], ◌∷◌, length, sym, ◌∙◌, ap, refl, subst, inl, inr, arith}
 use Rattle.std.proofs.lemmas.Bool.{cases_Bool, cases_lt, eqb-true, eq-eqb, ne_eqb, false≢true, true≢false}
 use Rattle.mpeg_scan.specs.declared.codes.Code.{Code}
-use Rattle.mpeg_scan.specs.CodeFacts.{film_slice_count, before_group_of, is_head, is_slice, picture_count}
-use Rattle.mpeg_scan.specs.CodeFacts.{slice_count}
+use Rattle.mpeg_scan.specs.CodeFacts.{film_slice_count, before_group_of, is_head, is_slice, picture_count, slice_count}
 use Rattle.mpeg_scan.specs.StandardRefusals.{IsPicture}
 use Rattle.mpeg_scan.specs.declared.units.Unit.{Unit as PictureUnit}
 use Rattle.mpeg_scan.specs.StandardUnits.{AreCodes, Counts, IsFirstCode, IsHeadValue, IsSliceValue}
@@ -326,12 +325,6 @@ unit-same {A} {B} {unit} same fields u =
             p.last place value ((back place value before).0 has) after before is;
         fields = fields p.place p.fields;
       };
-      sequence = (
-        λ e. code-same unit 0xb3 there (u.sequence.0 e),
-        λ it. u.sequence.1 (code-same unit 0xb3 back it),
-      );
-      group = (
-        λ e. starts-same unit there some (u.group.0 e),
-        λ either. u.group.1 (starts-same unit back some either),
-      );
+      sequence = (λ e. code-same unit 0xb3 there (u.sequence.0 e), λ it. u.sequence.1 (code-same unit 0xb3 back it));
+      group = (λ e. starts-same unit there some (u.group.0 e), λ either. u.group.1 (starts-same unit back some either));
     }

@@ -34,8 +34,7 @@ apart x e = ap (λ n. eqb n 0) (eqb-true x 1 e)
 
 pub matched-more : (x : ℕ) (r : List ℕ) → latest_prefix (x ∷ r) ≡ next_prefix (latest_prefix r) x
 unfolding latest_prefix
-matched-more x r =
-    table (eqb (byte_back r 1) 0) (eqb (byte_back r 2) 0) (apart x) (apart (byte_back r 0))
+matched-more x r = table (eqb (byte_back r 1) 0) (eqb (byte_back r 2) 0) (apart x) (apart (byte_back r 0))
 
 pub noted-by : (b : Bool) (header : List ℕ) (x : ℕ) → ltb (length header) 5 ≡ b
     → header_with header x ≡ cond b (header ++ x ∷ []) header

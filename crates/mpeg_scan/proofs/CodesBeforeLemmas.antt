@@ -1,8 +1,7 @@
 -- The codes before a place: its latest one, the latest unit's head and the picture in it, and the
 -- pictures of a group.
-use Rattle.std.proofs.Common.{ℕ, Bool, true, false, cond, eqb, ltb, leb, ◌&&◌, ◌||◌, ◌+◌, ◌<◌, ◌≤◌}
-use Rattle.std.proofs.Common.{◌≡◌, ◌⊎◌, List, [], ◌∷◌, Option, Some, None, sym, ◌∙◌, ap, refl}
-use Rattle.std.proofs.Common.{subst, inl, inr, arith}
+use Rattle.std.proofs.Common.{ℕ, Bool, true, false, cond, eqb, ltb, leb, ◌&&◌, ◌||◌, ◌+◌, ◌<◌, ◌≤◌, ◌≡◌, ◌⊎◌, List, []}
+use Rattle.std.proofs.Common.{◌∷◌, Option, Some, None, sym, ◌∙◌, ap, refl, subst, inl, inr, arith}
 use Rattle.std.proofs.lemmas.Bool.{cases_Bool, cases_lt, eqb-true, eq-eqb, ltb-true, lt-ltb, leb-true, le-leb}
 use Rattle.std.proofs.lemmas.Bool.{and_parts, and_from, false≢true, true≢false}
 use Rattle.mpeg_scan.specs.declared.codes.Code.{Code}
@@ -11,8 +10,7 @@ use Rattle.mpeg_scan.specs.CodeFacts.{begins_unit, header_of, is_head, is_slice,
 use Rattle.mpeg_scan.specs.CodeFacts.{latest_unit}
 use Rattle.mpeg_scan.specs.CodePlaces.{HasCode}
 use Rattle.mpeg_scan.specs.StandardRefusals.{BeginsUnit, IsItsPicture, IsLatest, IsOpenHead, IsPicture}
-use Rattle.mpeg_scan.specs.StandardUnits.{AnyValue, IsFirstCode, IsHeadValue, IsSliceValue, NoneIn}
-use Rattle.mpeg_scan.specs.StandardUnits.{StandsThere}
+use Rattle.mpeg_scan.specs.StandardUnits.{AnyValue, IsFirstCode, IsHeadValue, IsSliceValue, NoneIn, StandsThere}
 use Rattle.mpeg_scan.proofs.PartTilingLemmas.{slice-apart}
 use Rattle.mpeg_scan.proofs.CodeSpacingLemmas.{Spaced, all-below}
 
@@ -81,8 +79,7 @@ none-with {OfValue} s other none place value has after before is =
 -- the same from the latest code on
 none-from : {Has : ℕ → ℕ → Type 0} (OfValue : ℕ → Type 0) (s : CodesBefore Has)
     → (OfValue s.latest.value → ⊥) → NoneIn Has s.latest.place s.at OfValue
-none-from OfValue s other =
-    none-with s other (λ place value has after before is. absurd (omega (arith, after, before)))
+none-from OfValue s other = none-with s other (λ place value has after before is. absurd (omega (arith, after, before)))
 
 pub none-after : {Has : ℕ → ℕ → Type 0} (OfValue : ℕ → Type 0) (s : CodesBefore Has)
     → NoneIn Has (s.latest.place + 1) s.at OfValue
@@ -114,8 +111,7 @@ slice-value value e = let parts =
     (leb-true 1 value parts.0, leb-true value 0xaf parts.1)
 
 pub value-slice : (value : ℕ) → IsSliceValue value → is_slice value ≡ true
-value-slice value is =
-    and_from (leb 1 value) (leb value 0xaf) (le-leb 1 value is.0) (le-leb value 0xaf is.1)
+value-slice value is = and_from (leb 1 value) (leb value 0xaf) (le-leb 1 value is.0) (le-leb value 0xaf is.1)
 
 pub any-true : (a b d : Bool) → (a || (b || d)) ≡ true → (a ≡ true) ⊎ ((b ≡ true) ⊎ (d ≡ true))
 any-true true b d is = inl refl
@@ -243,11 +239,7 @@ open-with s other o = record {
 -- a code that begins a unit
 open-new : {Has : ℕ → ℕ → Type 0} (s : CodesBefore Has) → (IsSliceValue s.latest.value → ⊥)
     → BeginsUnit Has s.latest.place → IsOpenHead Has s.latest.place s.at
-open-new s other begins = record {
-  begins = begins;
-  before = new-below s;
-  no_slice = none-from IsSliceValue s other;
-}
+open-new s other begins = record { begins = begins; before = new-below s; no_slice = none-from IsSliceValue s other }
 
 -- the first code
 firsts : {Has : ℕ → ℕ → Type 0} {c : Code} {at : ℕ} → Knows Has (c ∷ []) at → IsFirstCode Has c.place

@@ -40,8 +40,7 @@ both P Q (Some h) b one other f = (
 
 pub decide : (P : FilmFault → Type 0) (b : Bool) (h : FilmFault) → (b ≡ true → P h)
     → ((g : FilmFault) → P g → (b ≡ true) × (g ≡ h)) → Decides P (cond b (Some h) None)
-decide P true h one other f =
-    (λ e. subst P (same_Some h f e) (one refl), λ p. ap Some (sym (other f p).1))
+decide P true h one other f = (λ e. subst P (same_Some h f e) (one refl), λ p. ap Some (sym (other f p).1))
 decide P false h one other f = (λ e. absurd (none-some f e), λ p. absurd (false≢true (other f p).0))
 
 cond-otherwise : (b : Bool) (h : FilmFault) (o : Option FilmFault) →

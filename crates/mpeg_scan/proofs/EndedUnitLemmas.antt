@@ -1,7 +1,6 @@
 -- The units that have ended are those of the standard's words, over the codes that came.
-use Rattle.std.proofs.Common.{ℕ, zero, suc, Bool, true, false, cond, eqb, ltb, ◌&&◌, ◌||◌, ◌+◌, ◌-◌}
-use Rattle.std.proofs.Common.{◌<◌, ◌≤◌, ◌≡◌, ◌⊎◌, ◌↔◌, List, [], ◌∷◌, ◌++◌, Option, Some, None}
-use Rattle.std.proofs.Common.{sym, ◌∙◌, ap, refl, subst, inl, inr, arith}
+use Rattle.std.proofs.Common.{ℕ, zero, suc, Bool, true, false, cond, eqb, ltb, ◌&&◌, ◌||◌, ◌+◌, ◌-◌, ◌<◌, ◌≤◌, ◌≡◌, ◌⊎◌}
+use Rattle.std.proofs.Common.{◌↔◌, List, [], ◌∷◌, ◌++◌, Option, Some, None, sym, ◌∙◌, ap, refl, subst, inl, inr, arith}
 use Rattle.std.specs.Prelude.{unwrap_or}
 use Rattle.std.specs.Option.{is_some}
 use Rattle.std.proofs.lemmas.Bool.{cases_lt, ltb-true, false≢true}
@@ -12,15 +11,12 @@ use Rattle.mpeg_scan.specs.CodeFacts.{film_slice_count, has_sequence, head_end_o
 use Rattle.mpeg_scan.specs.CodeFacts.{is_slice, kind_of, latest_picture, slice_count, starts_group, tally_of}
 use Rattle.mpeg_scan.specs.CodeFacts.{temporal_of, type_of, latest_unit, vectors_of}
 use Rattle.mpeg_scan.specs.FilmFaults.{end_fault, first_fault, last_fault, latest_fault}
-use Rattle.mpeg_scan.specs.Calls.{Call, head_call, slice_call, calls_at, no_header, calls_of}
-use Rattle.mpeg_scan.specs.Calls.{unit_at, unit_end}
+use Rattle.mpeg_scan.specs.Calls.{Call, head_call, slice_call, calls_at, no_header, calls_of, unit_at, unit_end}
 use Rattle.mpeg_scan.specs.Layout.{OfUnit}
 use Rattle.mpeg_scan.specs.Films.{units_in}
 use Rattle.mpeg_scan.specs.CodePlaces.{HasCode}
-use Rattle.mpeg_scan.specs.StandardUnits.{Counts, HasPicture, IsFirstCode, IsHeadValue}
-use Rattle.mpeg_scan.specs.StandardUnits.{IsSliceValue, StandsIn, UnitIs}
-use Rattle.mpeg_scan.proofs.ScanStepLemmas.{accepted-older, code-accepted, otherwise-second}
-use Rattle.mpeg_scan.proofs.ScanStepLemmas.{calls-cons}
+use Rattle.mpeg_scan.specs.StandardUnits.{Counts, HasPicture, IsFirstCode, IsHeadValue, IsSliceValue, StandsIn, UnitIs}
+use Rattle.mpeg_scan.proofs.ScanStepLemmas.{accepted-older, code-accepted, otherwise-second, calls-cons}
 use Rattle.mpeg_scan.proofs.PartTilingLemmas.{CodeEnds, ended-none, first-is, first_slice-accepted, raw_calls}
 use Rattle.mpeg_scan.proofs.PartTilingLemmas.{slice-apart, calls-nil, ends_at}
 use Rattle.mpeg_scan.proofs.CodeSpacingLemmas.{After, Spaced, all-below}
@@ -169,12 +165,7 @@ close : (past : List Code) (to : ℕ) → OpenOf past → Spaced past → 0 < sl
 close past to open_ spaced some below =
     let unit = unit_at (tally_of past) to in
     let k : Knows (Has past) past to =
-    record {
-      there = λ place value has. has;
-      below = below;
-      back = λ place value has before. has;
-      spaced = spaced;
-    } in
+    record { there = λ place value has. has; below = below; back = λ place value has before. has; spaced = spaced } in
     let count : film_slice_count past ≡ film_slice_count past - slice_count past + slice_count past =
     omega (arith, few-slices past) in
     let ends = open_.sliced some in

@@ -1,26 +1,21 @@
 -- The bounds of an accepted film: its rate code, its bytes and its units.
-use Rattle.std.proofs.Common.{ℕ, Bool, true, false, cond, eqb, ltb, ◌&&◌, ◌||◌, ◌+◌, ◌-◌, ◌^◌, ◌≤◌}
-use Rattle.std.proofs.Common.{◌≡◌, List, [], ◌∷◌, Option, Some, None, length, sym, ◌∙◌, ap}
-use Rattle.std.proofs.Common.{subst, arith}
+use Rattle.std.proofs.Common.{ℕ, Bool, true, false, cond, eqb, ltb, ◌&&◌, ◌||◌, ◌+◌, ◌-◌, ◌^◌, ◌≤◌, ◌≡◌, List, [], ◌∷◌}
+use Rattle.std.proofs.Common.{Option, Some, None, length, sym, ◌∙◌, ap, subst, arith}
 use Rattle.std.specs.Prelude.{unwrap_or}
 use Rattle.std.proofs.lemmas.Bool.{true≢false, or_parts, eq-eqb, ltb-false}
 use Rattle.mpeg_scan.specs.declared.codes.Code.{Code}
 use Rattle.mpeg_scan.specs.declared.faults.FilmFault.{FilmFault}
-use Rattle.mpeg_scan.specs.declared.faults.FilmFault.TheVariants.{Empty, ShortHeader, BadRate}
-use Rattle.mpeg_scan.specs.declared.faults.FilmFault.TheVariants.{TooLong}
+use Rattle.mpeg_scan.specs.declared.faults.FilmFault.TheVariants.{Empty, ShortHeader, BadRate, TooLong}
 use Rattle.mpeg_scan.specs.StartCodes.{read_after, codes_of}
 use Rattle.mpeg_scan.specs.CodeFacts.{first_rate, picture_count, rate_after, rate_code, rate_of, tally_of}
-use Rattle.mpeg_scan.specs.FilmFaults.{first_refusal, rate_fault, picture_fault, header_fault}
-use Rattle.mpeg_scan.specs.FilmFaults.{latest_fault, last_fault, code_fault, fault_at, first_fault}
-use Rattle.mpeg_scan.specs.FilmFaults.{end_fault, refusal_of}
+use Rattle.mpeg_scan.specs.FilmFaults.{first_refusal, rate_fault, picture_fault, header_fault, latest_fault, last_fault}
+use Rattle.mpeg_scan.specs.FilmFaults.{code_fault, fault_at, first_fault, end_fault, refusal_of}
 use Rattle.mpeg_scan.specs.Calls.{Call, head_call, slice_call, unit_call}
 use Rattle.mpeg_scan.specs.UnitNumbering.{Count, group_of, counts_after, no_count}
 use Rattle.mpeg_scan.specs.Films.{units_in, refusal, film_calls}
 use Rattle.mpeg_scan.proofs.FilmLemmas.{length-read}
-use Rattle.mpeg_scan.proofs.ScanStepLemmas.{accepted-older, otherwise-first, otherwise-second}
-use Rattle.mpeg_scan.proofs.ScanStepLemmas.{pictures-bound, positive}
-use Rattle.mpeg_scan.proofs.ScanStepLemmas.{some-cond-none}
-use Rattle.mpeg_scan.proofs.ScanStepLemmas.{accepted-whole}
+use Rattle.mpeg_scan.proofs.ScanStepLemmas.{accepted-older, otherwise-first, otherwise-second, pictures-bound, positive}
+use Rattle.mpeg_scan.proofs.ScanStepLemmas.{some-cond-none, accepted-whole}
 use Rattle.mpeg_scan.proofs.PartTilingLemmas.{ended-none, first-is}
 use Rattle.mpeg_scan.proofs.UnitNumberingLemmas.{film-count}
 

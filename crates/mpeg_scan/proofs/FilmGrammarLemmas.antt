@@ -6,12 +6,10 @@ use Rattle.std.proofs.lemmas.Bool.{lt-ltb, false≢true, true≢false}
 use Rattle.mpeg_scan.specs.declared.codes.Code.{Code}
 use Rattle.mpeg_scan.specs.StartCodes.{codes_of}
 use Rattle.mpeg_scan.specs.CodeFacts.{is_head, is_slice, tally_of, slice_count, latest_picture, header_of}
-use Rattle.mpeg_scan.specs.FilmFaults.{code_fault, first_fault, end_fault, last_fault, latest_fault}
-use Rattle.mpeg_scan.specs.FilmFaults.{refusal_of}
+use Rattle.mpeg_scan.specs.FilmFaults.{code_fault, first_fault, end_fault, last_fault, latest_fault, refusal_of}
 use Rattle.mpeg_scan.specs.Grammar.{Phase, nowhere, in_head, after_picture, in_slices, next_phase}
 use Rattle.mpeg_scan.specs.Grammar.{then_phase, phase_after, IsGrammatical}
-use Rattle.mpeg_scan.proofs.ScanStepLemmas.{accepted-older, code-accepted, otherwise-first}
-use Rattle.mpeg_scan.proofs.ScanStepLemmas.{otherwise-second}
+use Rattle.mpeg_scan.proofs.ScanStepLemmas.{accepted-older, code-accepted, otherwise-first, otherwise-second}
 use Rattle.mpeg_scan.proofs.ScanStepLemmas.{accepted-whole}
 use Rattle.mpeg_scan.proofs.PartTilingLemmas.{first-is, ended-none}
 use Rattle.mpeg_scan.proofs.UnitNumberingLemmas.{CodeFits, code-fits, some-cond}

@@ -9,8 +9,7 @@ use Rattle.mpeg_scan.specs.StartCodes.{read_after, codes_of}
 use Rattle.mpeg_scan.specs.FilmFaults.{first_refusal, first_fault, end_fault, refusal_of}
 use Rattle.mpeg_scan.specs.Calls.{Call, head_call, slice_call, unit_call, calls_of}
 use Rattle.mpeg_scan.specs.Films.{units_in, slices_in, refusal}
-use Rattle.mpeg_scan.proofs.ScanStepLemmas.{codes-none}
-use Rattle.mpeg_scan.proofs.ScanStepLemmas.{refusal-of_codes, refusal-of_many}
+use Rattle.mpeg_scan.proofs.ScanStepLemmas.{codes-none, refusal-of_codes, refusal-of_many}
 
 -- an answer is one error
 pub same-error : {T : Type 0} {e f : ScanRefused} (r : Result T ScanRefused) → r ≡ Err e →

@@ -12,9 +12,8 @@ use Rattle.mpeg_scan.specs.FilmFaults.{end_fault, fault_at, first_fault, last_fa
 use Rattle.mpeg_scan.specs.FilmFaults.{left_without_slices, open_fault, first_refusal, refusal_of}
 use Rattle.mpeg_scan.specs.Films.{refusal}
 use Rattle.mpeg_scan.specs.CodePlaces.{IsCodeAt}
-use Rattle.mpeg_scan.specs.StandardRefusals.{CodeRefusal, EndRefusal, FirstRefusal, HeaderRefusal}
-use Rattle.mpeg_scan.specs.StandardRefusals.{IsOpenHead, IsRefusedFor, LacksCodes, LacksPicture}
-use Rattle.mpeg_scan.specs.StandardRefusals.{LacksSlices, Otherwise}
+use Rattle.mpeg_scan.specs.StandardRefusals.{CodeRefusal, EndRefusal, FirstRefusal, HeaderRefusal, IsOpenHead}
+use Rattle.mpeg_scan.specs.StandardRefusals.{IsRefusedFor, LacksCodes, LacksPicture, LacksSlices, Otherwise}
 use Rattle.mpeg_scan.specs.StandardUnits.{AnyValue, StandsThere}
 use Rattle.mpeg_scan.proofs.FilmLemmas.{length-read}
 use Rattle.mpeg_scan.proofs.ScanStepLemmas.{accepted-older, otherwise-second}
@@ -24,9 +23,8 @@ use Rattle.mpeg_scan.proofs.CodeSpacingLemmas.{all-below, placed-codes, room-aft
 use Rattle.std.proofs.lemmas.Option.{same_Some}
 use Rattle.mpeg_scan.proofs.DecisionLemmas.{Decides, both, both-cond, by-test, neither, no-more, none-of}
 use Rattle.mpeg_scan.proofs.DecisionLemmas.{only-first, only-second}
-use Rattle.mpeg_scan.proofs.CodesBeforeLemmas.{Knows, PictureThere, earlier, has-new, here, known, new-below}
-use Rattle.mpeg_scan.proofs.CodesBeforeLemmas.{not-open, one-head, open-head, picture-there}
-use Rattle.mpeg_scan.proofs.CodesBeforeLemmas.{slice-there, where-is}
+use Rattle.mpeg_scan.proofs.CodesBeforeLemmas.{Knows, PictureThere, earlier, has-new, here, known, new-below, not-open}
+use Rattle.mpeg_scan.proofs.CodesBeforeLemmas.{one-head, open-head, picture-there, slice-there, where-is}
 use Rattle.mpeg_scan.proofs.HeaderLemmas.{Film, film-older, latest-decides}
 use Rattle.mpeg_scan.proofs.RefusalLemmas.{begins-after, code-decides, picture-slices}
 
@@ -111,12 +109,7 @@ open-decides {Has} {end} past None head none =
     only-second (LacksSlices Has end) (LacksPicture Has end) (Some (HeadWithoutPicture unit))
     (no-more (LacksSlices Has end) None (picture-slices {unit = unit} None head none) refl)
     (λ f. (
-      λ e. record {
-        unit = unit;
-        open_head = head;
-        none = none;
-        is = sym (same_Some (HeadWithoutPicture unit) f e);
-      },
+      λ e. record { unit = unit; open_head = head; none = none; is = sym (same_Some (HeadWithoutPicture unit) f e) },
       λ p. ap (λ u. Some (HeadWithoutPicture u)) (one-head head p.open_head) ∙ ap Some (sym p.is),
     ))
 open-decides {Has} {end} past (Some h) head picture =
@@ -167,12 +160,7 @@ first-anywhere : {bytes : List ℕ} {end : ℕ} {o : Option FilmFault}
     → ((place value : ℕ) → IsCodeAt bytes place value → place < end) → Decides (FirstBefore bytes end) o
     → Decides (FirstRefusal (IsCodeAt bytes) bytes) o
 first-anywhere all is f = (
-  λ e. let it = (is f).0 e in record {
-    at = it.at;
-    code = it.code;
-    refused = it.refused;
-    first = it.first;
-  },
+  λ e. let it = (is f).0 e in record { at = it.at; code = it.code; refused = it.refused; first = it.first },
   λ p. (is f).1 (record {
     at = p.at;
     code = p.code;

@@ -1,7 +1,6 @@
 -- The head of a film's first unit holds all of its sequence header.
-use Rattle.std.proofs.Common.{◌≡◌, ℕ, ◌+◌, ◌≤◌, ◌⊎◌}
-use Rattle.std.proofs.Common.{List, [], ◌∷◌, Some, None, length, slice_get, sym, inl}
-use Rattle.std.proofs.Common.{inr, refl, ◌∙◌, arith}
+use Rattle.std.proofs.Common.{◌≡◌, ℕ, ◌+◌, ◌≤◌, ◌⊎◌, List, [], ◌∷◌, Some, None, length, slice_get, sym, inl, inr, refl}
+use Rattle.std.proofs.Common.{◌∙◌, arith}
 use Rattle.mpeg_scan.specs.declared.codes.Code.{Code}
 use Rattle.mpeg_scan.specs.declared.units.Unit.{Unit as PictureUnit}
 use Rattle.mpeg_scan.specs.declared.films.Film.{Film}

@@ -10,16 +10,13 @@ use Rattle.mpeg_scan.specs.StartCodes.{read_after, codes_of}
 use Rattle.mpeg_scan.specs.CodeFacts.{is_head, is_slice, first_rate, rate_after, rate_code, rate_of}
 use Rattle.mpeg_scan.specs.CodeFacts.{slice_count, starts_group, tally_of}
 use Rattle.mpeg_scan.specs.FilmFaults.{end_fault, first_fault, header_fault, last_fault, latest_fault}
-use Rattle.mpeg_scan.specs.Calls.{Call, head_call, slice_call, calls_at, calls_of, unit_at}
-use Rattle.mpeg_scan.specs.Calls.{unit_end}
-use Rattle.mpeg_scan.specs.Layout.{OfUnit}
+use Rattle.mpeg_scan.specs.Calls.{Call, head_call, slice_call, calls_at, calls_of, unit_at, unit_end}
+use Rattle.mpeg_scan.specs.Layout.{OfUnit, AreChained, BeginsSequence}
 use Rattle.mpeg_scan.specs.Films.{IsFilm, units_in}
 use Rattle.mpeg_scan.specs.PartTiling.{first_of}
 use Rattle.mpeg_scan.specs.CodePlaces.{HasCode, IsCodeAt}
 use Rattle.mpeg_scan.specs.StandardUnits.{AnyValue, IsFirstCode, StandsThere}
-use Rattle.mpeg_scan.specs.Layout.{AreChained, BeginsSequence}
-use Rattle.mpeg_scan.proofs.ScanStepLemmas.{accepted-older, otherwise-first, otherwise-second}
-use Rattle.mpeg_scan.proofs.ScanStepLemmas.{calls-cons}
+use Rattle.mpeg_scan.proofs.ScanStepLemmas.{accepted-older, otherwise-first, otherwise-second, calls-cons}
 use Rattle.mpeg_scan.proofs.ScanStepLemmas.{accepted-whole}
 use Rattle.mpeg_scan.proofs.PartTilingLemmas.{CodeEnds, ended-none, first-is, raw_calls}
 use Rattle.mpeg_scan.proofs.PartTilingLemmas.{slice-apart, calls-nil, ends_at}
@@ -203,15 +200,13 @@ first_in-value c (d ∷ past) accepted = first_in-value d past (accepted-older c
 pub first_in-rate : (c : Code) (past : List Code) → first_fault (c ∷ past) ≡ None
     → first_rate (c ∷ past) ≡ Some (rate_code (first_in c past))
 unfolding first_in
-first_in-rate c [] accepted =
-    ap (λ b. cond b (Some (rate_code c)) None) (eq-eqb c.value 0xb3 (first-is c accepted))
+first_in-rate c [] accepted = ap (λ b. cond b (Some (rate_code c)) None) (eq-eqb c.value 0xb3 (first-is c accepted))
 first_in-rate c (d ∷ past) accepted =
     ap (λ (rate : Option ℕ). rate_after rate c) (first_in-rate d past (accepted-older c (d ∷ past) accepted))
 
 pub long-header : (rate : Option ℕ) (c : Code) (end : ℕ) → c.value ≡ 0xb3 → header_fault rate c end ≡ None
     → c.place + 12 ≤ end
-long-header rate c end is e =
-    omega (arith, ltb-false (end - c.place) 12 (sequence-judged rate c end is e).0)
+long-header rate c end is e = omega (arith, ltb-false (end - c.place) 12 (sequence-judged rate c end is e).0)
 
 first-there : (bytes : List ℕ) (past : List Code) → codes_of (read_after [] bytes) ≡ past → Spaced past
     → end_fault past (length (read_after [] bytes)) ≡ None

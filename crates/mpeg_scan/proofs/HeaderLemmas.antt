@@ -2,19 +2,16 @@
 use Rattle.std.proofs.Common.{ℕ, Bool, true, false, cond, eqb, ltb, leb, not, ◌&&◌, ◌||◌, ◌+◌, ◌-◌}
 use Rattle.std.proofs.Common.{◌/◌, ◌%◌, ◌<◌, ◌≤◌, ◌≡◌, ◌⊎◌, ◌↔◌, List, [], ◌∷◌, Option, Some, None}
 use Rattle.std.proofs.Common.{get_or, sym, ◌∙◌, ap, refl, subst, inl, inr, arith}
-use Rattle.std.proofs.lemmas.Bool.{cases_lt, eqb-false, eqb-true, eq-eqb, ne_eqb, not-true}
-use Rattle.std.proofs.lemmas.Bool.{ltb-true, ltb-false, lt-ltb, le-ltb, leb-true, le-leb, and_parts}
-use Rattle.std.proofs.lemmas.Bool.{and_from, or_left, or_right, or_parts, not_from_false}
-use Rattle.std.proofs.lemmas.Bool.{false≢true, true≢false}
+use Rattle.std.proofs.lemmas.Bool.{cases_lt, eqb-false, eqb-true, eq-eqb, ne_eqb, not-true, ltb-true, ltb-false, lt-ltb}
+use Rattle.std.proofs.lemmas.Bool.{le-ltb, leb-true, le-leb, and_parts, and_from, or_left, or_right, or_parts}
+use Rattle.std.proofs.lemmas.Bool.{not_from_false, false≢true, true≢false}
 use Rattle.mpeg_scan.specs.declared.codes.Code.{Code}
 use Rattle.mpeg_scan.specs.declared.faults.FilmFault.{FilmFault}
 use Rattle.mpeg_scan.specs.declared.faults.FilmFault.TheVariants.{BadRate, BadType, ShortHeader}
 use Rattle.mpeg_scan.specs.CodeFacts.{first_rate, rate_code, type_of}
-use Rattle.mpeg_scan.specs.FilmFaults.{differs, first_fault, header_fault, latest_fault, picture_fault}
-use Rattle.mpeg_scan.specs.FilmFaults.{rate_fault}
-use Rattle.mpeg_scan.specs.StandardRefusals.{HeaderRefusal, IsBadRate, IsBadType, IsLatest, IsOtherRate}
-use Rattle.mpeg_scan.specs.StandardRefusals.{IsSequence, IsShortHeader, Otherwise, has_vectors}
-use Rattle.mpeg_scan.specs.StandardRefusals.{header_bytes, picture_rate}
+use Rattle.mpeg_scan.specs.FilmFaults.{differs, first_fault, header_fault, latest_fault, picture_fault, rate_fault}
+use Rattle.mpeg_scan.specs.StandardRefusals.{HeaderRefusal, IsBadRate, IsBadType, IsLatest, IsOtherRate, IsSequence}
+use Rattle.mpeg_scan.specs.StandardRefusals.{IsShortHeader, Otherwise, has_vectors, header_bytes, picture_rate}
 use Rattle.mpeg_scan.specs.StandardUnits.{IsHeadValue, NoneIn, picture_coding_type}
 use Rattle.mpeg_scan.proofs.FilmBoundLemmas.{older-judged}
 use Rattle.mpeg_scan.proofs.FirstUnitLemmas.{AreJudged, first_in, first_in-has, first_in-value}
@@ -248,10 +245,8 @@ type-good t e = elim (cases_lt 4 t) [
 
 type-bad : (b : Bool) (t : ℕ) → (leb 1 t && leb t 4) ≡ b → (t ≡ 0) ⊎ (4 < t) → b ≡ false
 type-bad false t e bad = refl
-type-bad true t e (inl none) =
-    absurd (omega (arith, none, leb-true 1 t (and_parts (leb 1 t) (leb t 4) e).0))
-type-bad true t e (inr many) =
-    absurd (omega (arith, many, leb-true t 4 (and_parts (leb 1 t) (leb t 4) e).1))
+type-bad true t e (inl none) = absurd (omega (arith, none, leb-true 1 t (and_parts (leb 1 t) (leb t 4) e).0))
+type-bad true t e (inr many) = absurd (omega (arith, many, leb-true t 4 (and_parts (leb 1 t) (leb t 4) e).1))
 
 no-value : (value : ℕ) → eqb value 0xb3 ≡ false → eqb value 0xb8 ≡ false → eqb value 0 ≡ false →
     IsHeadValue value → ⊥
@@ -280,8 +275,7 @@ fewer two its d same e = elim (cases_lt d 8) [
 
 few-by : (its two : Bool) (d : ℕ) → two ≡ its → 8 ≤ d → d < cond its 9 8 →
     (ltb d 8 || (two && ltb d 9)) ≡ true
-few-by true two d same more few =
-    or_right (ltb d 8) (two && ltb d 9) (and_from two (ltb d 9) same (lt-ltb d 9 few))
+few-by true two d same more few = or_right (ltb d 8) (two && ltb d 9) (and_from two (ltb d 9) same (lt-ltb d 9 few))
 few-by false two d same more few = absurd (omega (arith, more, few))
 
 few : (two its : Bool) (d : ℕ) → (8 ≤ d → two ≡ its) → d < cond its 9 8 →

@@ -1,7 +1,6 @@
 -- What the start codes of an accepted film say of its latest unit, code by code.
-use Rattle.std.proofs.Common.{ℕ, Bool, true, false, cond, eqb, ltb, ◌∙◌, ◌&&◌, ◌||◌, ◌+◌, ◌<◌, ◌≤◌, ◌≡◌}
-use Rattle.std.proofs.Common.{◌⊎◌, List, [], ◌∷◌, Option, Some, None, sym, ap, refl, subst, inl}
-use Rattle.std.proofs.Common.{inr, arith}
+use Rattle.std.proofs.Common.{ℕ, Bool, true, false, cond, eqb, ltb, ◌∙◌, ◌&&◌, ◌||◌, ◌+◌, ◌<◌, ◌≤◌, ◌≡◌, ◌⊎◌, List, []}
+use Rattle.std.proofs.Common.{◌∷◌, Option, Some, None, sym, ap, refl, subst, inl, inr, arith}
 use Rattle.std.specs.Option.{is_some}
 use Rattle.std.proofs.lemmas.Bool.{cases_Bool, eqb-true, eq-eqb, ltb-false, or_parts, true≢false, false≢true}
 use Rattle.mpeg_scan.proofs.ScanStepLemmas.{positive}
@@ -382,8 +381,7 @@ next_by h s z t g u c = record {
 }
 
 abbrev pub next_latest : Latest → Code → Latest
-next_latest u c =
-    next_by (is_head c.value) (is_slice c.value) (eqb c.value 0) (eqb c.value 0xb3) (eqb c.value 0xb8) u c
+next_latest u c = next_by (is_head c.value) (is_slice c.value) (eqb c.value 0) (eqb c.value 0xb3) (eqb c.value 0xb8) u c
 
 head-no-slice : (value : ℕ) → is_head value ≡ true → is_slice value ≡ false
 head-no-slice value head = elim (cases_Bool (is_slice value)) [

@@ -1,12 +1,10 @@
 -- What is known of the codes so far before a place, as more bytes and a code that isn't refused come.
-use Rattle.std.proofs.Common.{ℕ, zero, suc, Bool, true, false, not, cond, eqb, ltb, leb, ◌&&◌, ◌||◌}
-use Rattle.std.proofs.Common.{◌+◌, ◌-◌, ◌<◌, ◌≤◌, ◌≡◌, Option, Some, None, ap, refl, arith}
+use Rattle.std.proofs.Common.{ℕ, zero, suc, Bool, true, false, not, cond, eqb, ltb, leb, ◌&&◌, ◌||◌, ◌+◌, ◌-◌, ◌<◌, ◌≤◌}
+use Rattle.std.proofs.Common.{◌≡◌, Option, Some, None, ap, refl, arith, inl, inr, sym, ◌∙◌}
 use Rattle.std.specs.Option.{ForSome, IsSome, is_some, option_map}
 use Rattle.std.proofs.lemmas.Option.{same_Some}
-use Rattle.std.proofs.lemmas.Bool.{false≢true, or_parts, true≢false}
-use Rattle.mpeg_scan.proofs.ScanStepLemmas.{some-cond-none}
-use Rattle.std.proofs.lemmas.Bool.{cases_Bool}
-use Rattle.std.proofs.Common.{inl, inr, sym, ◌∙◌}
+use Rattle.std.proofs.lemmas.Bool.{false≢true, or_parts, true≢false, cases_Bool}
+use Rattle.mpeg_scan.proofs.ScanStepLemmas.{some-cond-none, count-accepted, counted, otherwise-first}
 use Rattle.mpeg_scan.specs.declared.faults.FilmFault.{FilmFault}
 use Rattle.mpeg_scan.specs.declared.codes.Code.{Code}
 use Rattle.mpeg_scan.specs.declared.faults.FilmFault.TheVariants.{Mpeg2, NoSequence, SystemCode}
@@ -19,7 +17,6 @@ use Rattle.mpeg_scan.specs.ScanBounds.{HasCounts, HasRoom, HasRoomWith}
 use Rattle.mpeg_scan.specs.CodeSteps.{next, next_begins, next_picture, next_rate, next_slices}
 use Rattle.mpeg_scan.specs.CodeFacts.{header_of, is_head, is_slice, rate_after, rate_code}
 use Rattle.mpeg_scan.proofs.UnitNumberingLemmas.{first-some}
-use Rattle.mpeg_scan.proofs.ScanStepLemmas.{count-accepted, counted, otherwise-first}
 use Rattle.mpeg_scan.proofs.PartTilingLemmas.{first_slice-accepted}
 
 -- ---- before a later place
@@ -75,8 +72,7 @@ room-noted c t x room = record {
 
 noted-place : {p : ℕ} (c : Code) (x : ℕ) → ForSome (Some c) (λ d. d.place ≤ p)
     → ForSome (Some (note c x)) (λ d. d.place ≤ p)
-noted-place c x below d is =
-    omega (arith, below c refl, ap (λ (v : Code). v.place) (same_Some (note c x) d is))
+noted-place c x below d is = omega (arith, below c refl, ap (λ (v : Code). v.place) (same_Some (note c x) d is))
 
 pub with-noted : {t : Tally} {p : ℕ} (latest : Option Code) (x : ℕ) → HasRoomWith latest t p
     → HasRoomWith (option_map (λ c. note c x) latest) t p

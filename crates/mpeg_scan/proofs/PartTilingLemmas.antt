@@ -2,30 +2,25 @@
 use Rattle.std.proofs.Common.{ℕ, suc, zero, Bool, true, false, not, cond, eqb, ltb, leb, ◌&&◌, ◌||◌}
 use Rattle.std.proofs.Common.{◌+◌, ◌-◌, ◌<◌, ◌≤◌, ◌≡◌, ◌⊎◌, List, [], ◌∷◌, ◌++◌, Option, Some}
 use Rattle.std.proofs.Common.{None, length, sym, ◌∙◌, ap, refl, subst, inl, inr, arith}
-use Rattle.std.proofs.lemmas.Bool.{ltb-true, ltb-false, leb-true, eqb-true, ne_eqb}
-use Rattle.std.proofs.lemmas.Bool.{eq-eqb, lt-ltb, le-ltb, le-leb, true≢false, and_parts, and_from}
-use Rattle.std.proofs.lemmas.Bool.{cond-true, cond-false}
+use Rattle.std.proofs.lemmas.Bool.{ltb-true, ltb-false, leb-true, eqb-true, ne_eqb, eq-eqb, lt-ltb, le-ltb, le-leb}
+use Rattle.std.proofs.lemmas.Bool.{true≢false, and_parts, and_from, cond-true, cond-false}
 use Rattle.mpeg_scan.specs.declared.units.TheConstants.{MAX_UNIT_HEAD_BYTES}
 use Rattle.mpeg_scan.specs.declared.codes.Code.{Code}
-use Rattle.mpeg_scan.specs.declared.faults.FilmFault.TheVariants.{SystemCode, Mpeg2}
-use Rattle.mpeg_scan.specs.declared.faults.FilmFault.TheVariants.{NoSequence, HeadTooLong}
+use Rattle.mpeg_scan.specs.declared.faults.FilmFault.TheVariants.{SystemCode, Mpeg2, NoSequence, HeadTooLong}
 use Rattle.mpeg_scan.specs.declared.tallies.Header.{Header}
 use Rattle.mpeg_scan.specs.Tallies.{Tally}
 use Rattle.mpeg_scan.specs.declared.units.Unit.{Unit as PictureUnit}
 use Rattle.mpeg_scan.specs.StartCodes.{latest_prefix, codes_of}
-use Rattle.mpeg_scan.specs.CodeFacts.{is_head, is_slice, tally_of, slice_count, latest_unit, head_end_of}
-use Rattle.mpeg_scan.specs.CodeFacts.{latest_slice}
+use Rattle.mpeg_scan.specs.CodeFacts.{is_head, is_slice, tally_of, slice_count, latest_unit, head_end_of, latest_slice}
 use Rattle.mpeg_scan.specs.FilmFaults.{first_refusal, latest_fault, value_fault, second_fault}
 use Rattle.mpeg_scan.specs.FilmFaults.{first_slice_fault, count_fault, code_fault, head_fault}
 use Rattle.mpeg_scan.specs.FilmFaults.{open_fault, last_fault, first_fault, end_fault, refusal_of}
 use Rattle.mpeg_scan.specs.Calls.{Call, after_calls, head_call, slice_call, unit_call, unit_at, unit_end}
 use Rattle.mpeg_scan.specs.Calls.{calls_at, calls_of, all_calls}
 use Rattle.mpeg_scan.specs.PartTiling.{PartStart, between, within, next_part, parts_after, first_of, Tiles}
-use Rattle.mpeg_scan.proofs.ScanStepLemmas.{accepted-older, code-accepted, otherwise-first}
-use Rattle.mpeg_scan.proofs.ScanStepLemmas.{otherwise-second, calls-cons}
-use Rattle.mpeg_scan.proofs.ScanStepLemmas.{accepted-whole, none-cond, some-cond-none}
-use Rattle.mpeg_scan.proofs.CodeSpacingLemmas.{After, Spaced, placed-codes, room-after, slice-before}
-use Rattle.mpeg_scan.proofs.CodeSpacingLemmas.{unit-before}
+use Rattle.mpeg_scan.proofs.ScanStepLemmas.{accepted-older, code-accepted, otherwise-first, otherwise-second}
+use Rattle.mpeg_scan.proofs.ScanStepLemmas.{calls-cons, accepted-whole, none-cond, some-cond-none}
+use Rattle.mpeg_scan.proofs.CodeSpacingLemmas.{After, Spaced, placed-codes, room-after, slice-before, unit-before}
 
 -- ---- one code
 

@@ -1,29 +1,24 @@
 -- Each refusal comes exactly where the standard's words say.
-use Rattle.std.proofs.Common.{ℕ, Bool, true, false, cond, eqb, ltb, leb, not, ◌&&◌, ◌-◌}
-use Rattle.std.proofs.Common.{◌≤◌, ◌≡◌, List, [], ◌∷◌, Option, Some, None, sym, ◌∙◌, ap, refl}
-use Rattle.std.proofs.Common.{subst, inl, inr, arith}
+use Rattle.std.proofs.Common.{ℕ, Bool, true, false, cond, eqb, ltb, leb, not, ◌&&◌, ◌-◌, ◌≤◌, ◌≡◌, List, [], ◌∷◌}
+use Rattle.std.proofs.Common.{Option, Some, None, sym, ◌∙◌, ap, refl, subst, inl, inr, arith}
 use Rattle.std.specs.Prelude.{option_map}
-use Rattle.std.proofs.lemmas.Bool.{cases_lt, eqb-true, eqb-false, eq-eqb, ne_eqb, not-true}
-use Rattle.std.proofs.lemmas.Bool.{leb-true, le-leb, ltb-true, lt-ltb, and_parts, and_from}
-use Rattle.std.proofs.lemmas.Bool.{and_cases, not_from_false, false≢true}
+use Rattle.std.proofs.lemmas.Bool.{cases_lt, eqb-true, eqb-false, eq-eqb, ne_eqb, not-true, leb-true, le-leb, ltb-true}
+use Rattle.std.proofs.lemmas.Bool.{lt-ltb, and_parts, and_from, and_cases, not_from_false, false≢true}
 use Rattle.mpeg_scan.specs.declared.units.TheConstants.{MAX_UNIT_HEAD_BYTES}
 use Rattle.mpeg_scan.specs.declared.codes.Code.{Code}
 use Rattle.mpeg_scan.specs.declared.faults.FilmFault.{FilmFault}
-use Rattle.mpeg_scan.specs.declared.faults.FilmFault.TheVariants.{NoSequence, PictureWithoutSlices}
-use Rattle.mpeg_scan.specs.declared.faults.FilmFault.TheVariants.{HeadTooLong, GroupTooLong}
-use Rattle.mpeg_scan.specs.declared.faults.FilmFault.TheVariants.{TooLong, HeadWithoutPicture}
+use Rattle.mpeg_scan.specs.declared.faults.FilmFault.TheVariants.{NoSequence, PictureWithoutSlices, HeadTooLong}
+use Rattle.mpeg_scan.specs.declared.faults.FilmFault.TheVariants.{GroupTooLong, TooLong, HeadWithoutPicture}
 use Rattle.mpeg_scan.specs.declared.tallies.Header.{Header}
 use Rattle.mpeg_scan.specs.CodeFacts.{before_group_of, is_head, is_none_yet, is_slice, latest_picture}
 use Rattle.mpeg_scan.specs.CodeFacts.{picture_count, slice_count, tally_of, latest_unit}
-use Rattle.mpeg_scan.specs.FilmFaults.{code_fault, count_fault, fault_at, first_fault}
-use Rattle.mpeg_scan.specs.FilmFaults.{first_slice_fault, head_fault, value_fault, latest_fault}
-use Rattle.mpeg_scan.specs.FilmFaults.{left_without_slices, first_refusal, second_fault}
+use Rattle.mpeg_scan.specs.FilmFaults.{code_fault, count_fault, fault_at, first_fault, first_slice_fault, head_fault}
+use Rattle.mpeg_scan.specs.FilmFaults.{value_fault, latest_fault, left_without_slices, first_refusal, second_fault}
 use Rattle.mpeg_scan.specs.CodePlaces.{HasCode, IsCodeAt}
-use Rattle.mpeg_scan.specs.StandardRefusals.{CodeRefusal, CountRefusal, HasPictures}
-use Rattle.mpeg_scan.specs.StandardRefusals.{HeaderRefusal, IsExtension, IsItsPicture, IsLongFilm}
-use Rattle.mpeg_scan.specs.StandardRefusals.{IsLongGroup, IsLongHead, IsOpenHead, IsSystemCode, ValueRefusal}
-use Rattle.mpeg_scan.specs.StandardRefusals.{LacksPicture, LacksSequence, LacksSlices, Otherwise}
-use Rattle.mpeg_scan.specs.StandardRefusals.{SecondRefusal, SliceRefusal}
+use Rattle.mpeg_scan.specs.StandardRefusals.{CodeRefusal, CountRefusal, HasPictures, HeaderRefusal, IsExtension}
+use Rattle.mpeg_scan.specs.StandardRefusals.{IsItsPicture, IsLongFilm, IsLongGroup, IsLongHead, IsOpenHead}
+use Rattle.mpeg_scan.specs.StandardRefusals.{IsSystemCode, ValueRefusal, LacksPicture, LacksSequence, LacksSlices}
+use Rattle.mpeg_scan.specs.StandardRefusals.{Otherwise, SecondRefusal, SliceRefusal}
 use Rattle.mpeg_scan.specs.StandardUnits.{IsFirstCode, IsHeadValue, IsSliceValue, StandsThere}
 use Rattle.mpeg_scan.proofs.ScanStepLemmas.{positive}
 use Rattle.std.proofs.lemmas.Option.{same_Some}
@@ -129,8 +124,7 @@ begins-after {unit} k o = elim o.begins [
 slices-decide : {Has : ℕ → ℕ → Type 0} {past : List Code} {at : ℕ} → Knows Has past at → slice_count past ≡ 0
     → Decides (LacksSlices Has at) (option_map left_without_slices (latest_picture past))
 slices-decide {Has} {past = []} {at} k none = none-of (LacksSlices Has at) (λ f p. begins-after k p.open_head)
-slices-decide {past = d ∷ past} k none =
-    picture-slices (latest_picture (d ∷ past)) (open-head k none) (picture-there k)
+slices-decide {past = d ∷ past} k none = picture-slices (latest_picture (d ∷ past)) (open-head k none) (picture-there k)
 
 second-decides : (Has : ℕ → ℕ → Type 0) (past : List Code) (at value : ℕ) → AtCode Has past at value →
     Decides (SecondRefusal Has at) (second_fault (tally_of past) value)
@@ -152,21 +146,11 @@ second-decides Has past at value c =
 bare-decides : {Has : ℕ → ℕ → Type 0} {unit at : ℕ} → IsOpenHead Has unit at → PictureThere Has unit at None →
     Decides (Otherwise (LacksPicture Has at) (IsLongHead Has at)) (Some (HeadWithoutPicture unit))
 bare-decides {Has} {unit} {at} head none = λ f. (
-  λ e. inl (record {
-    unit = unit;
-    open_head = head;
-    none = none;
-    is = sym (same_Some (HeadWithoutPicture unit) f e);
-  }),
+  λ e. inl (record { unit = unit; open_head = head; none = none; is = sym (same_Some (HeadWithoutPicture unit) f e) }),
   λ either. elim either [
     | inl p ↦ ap (λ u. Some (HeadWithoutPicture u)) (one-head head p.open_head)
         ∙ ap Some (sym p.is)
-    | inr q ↦ absurd (q.0 (HeadWithoutPicture unit) (record {
-      unit = unit;
-      open_head = head;
-      none = none;
-      is = refl;
-    }))
+    | inr q ↦ absurd (q.0 (HeadWithoutPicture unit) (record { unit = unit; open_head = head; none = none; is = refl }))
   ],
 )
 
@@ -211,10 +195,7 @@ not-first {Has} {at} {value} c none slice =
       (λ g p. let other = c.one p.0.0 p.0.1.0 in omega (arith, is.1, other, p.0.1.1)),
       inr (
         (λ g p. let other = c.one 0xb5 p.0 in omega (arith, is.1, other)),
-        (
-          (first-of-none c.knows refl, λ has. (let other = c.one 0xb3 has in omega (arith, is.1, other))),
-          refl,
-        ),
+        ((first-of-none c.knows refl, λ has. (let other = c.one 0xb3 has in omega (arith, is.1, other))), refl),
       ),
     ))
 
@@ -269,10 +250,7 @@ film-test {past} k e =
     let it = codes-since picture-tests k in
     let many = leb-true 4194304 (picture_count past) e in (
       it.codes.places,
-      (
-        codes-from it.codes (λ place has far before. omega arith),
-        omega (arith, it.long, since-all past, many),
-      ),
+      (codes-from it.codes (λ place has far before. omega arith), omega (arith, it.long, since-all past, many)),
     )
 
 test-film : {Has : ℕ → ℕ → Type 0} {past : List Code} {at : ℕ} → Knows Has past at → HasPictures Has 0 at 4194304

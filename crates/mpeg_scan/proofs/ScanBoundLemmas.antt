@@ -1,8 +1,7 @@
 -- The scanner's latest unit and slice begin well before the next code.
-use Rattle.std.proofs.Common.{inl, inr}
-use Rattle.std.proofs.Common.{Result, Ok, Err, OnOk, ℕ, Bool, true, false, not, cond, eqb, leb, ltb}
-use Rattle.std.proofs.Common.{◌&&◌, ◌||◌, ◌+◌, ◌-◌, ◌<◌, ◌≤◌, ◌≡◌, List, [], ◌∷◌, Option, Some, None, sym, ◌∙◌, take}
-use Rattle.std.proofs.Common.{ap, refl, subst, arith}
+use Rattle.std.proofs.Common.{inl, inr, Result, Ok, Err, OnOk, ℕ, Bool, true, false, not, cond, eqb, leb, ltb, ◌&&◌}
+use Rattle.std.proofs.Common.{◌||◌, ◌+◌, ◌-◌, ◌<◌, ◌≤◌, ◌≡◌, List, [], ◌∷◌, Option, Some, None, sym, ◌∙◌, take, ap}
+use Rattle.std.proofs.Common.{refl, subst, arith}
 use Rattle.std.specs.Option.{IsSome, option_map}
 use Rattle.std.proofs.lemmas.Option.{same_Some}
 use Rattle.std.proofs.lemmas.Bool.{cases_Bool, or_parts, true≢false, false≢true, ne_eqb, lt-leb, cond-false}
@@ -11,8 +10,7 @@ use Rattle.mpeg_scan.specs.declared.codes.Code.{Code}
 use Rattle.mpeg_scan.specs.declared.codes.Prefix.{Prefix}
 use Rattle.mpeg_scan.specs.declared.codes.Prefix.TheVariants.{Nothing, Zero, Zeros, Whole}
 use Rattle.mpeg_scan.specs.declared.faults.FilmFault.{FilmFault}
-use Rattle.mpeg_scan.specs.declared.faults.FilmFault.TheVariants.{GroupTooLong, Mpeg2, NoSequence, SystemCode}
-use Rattle.mpeg_scan.specs.declared.faults.FilmFault.TheVariants.{TooLong}
+use Rattle.mpeg_scan.specs.declared.faults.FilmFault.TheVariants.{GroupTooLong, Mpeg2, NoSequence, SystemCode, TooLong}
 use Rattle.mpeg_scan.specs.declared.progress.Progress.{Progress}
 use Rattle.mpeg_scan.specs.Tallies.{Tally}
 use Rattle.mpeg_scan.specs.StartCodes.{after_one, after_zero, is_whole, next_prefix, note}
@@ -20,8 +18,7 @@ use Rattle.mpeg_scan.specs.CodeFacts.{is_head, is_slice}
 use Rattle.mpeg_scan.specs.FilmFaults.{code_fault, count_fault, first_refusal, first_slice_fault, head_fault}
 use Rattle.mpeg_scan.specs.FilmFaults.{header_fault, last_fault, left_without_slices, open_fault, second_fault}
 use Rattle.mpeg_scan.specs.FilmFaults.{value_fault}
-use Rattle.mpeg_scan.specs.ScanBounds.{AwaitsSlice, AwaitsSliceAfter, HasRoom, HasRoomWith, IsAhead}
-use Rattle.mpeg_scan.specs.ScanBounds.{prefix_length}
+use Rattle.mpeg_scan.specs.ScanBounds.{AwaitsSlice, AwaitsSliceAfter, HasRoom, HasRoomWith, IsAhead, prefix_length}
 use Rattle.mpeg_scan.specs.ScannerState.{HasSkipped, scan_with_code, scan_with_byte, scan_with_run}
 use Rattle.mpeg_scan.specs.CodeSteps.{end_judgement, code_judgement, latest_header_fault, next}
 use Rattle.mpeg_scan.specs.CodeSteps.{next_begins, tally_now, tally_with}
@@ -29,8 +26,7 @@ use Rattle.mpeg_scan.proofs.NextCodeLemmas.{code-begun, counts-more, counts-next
 use Rattle.mpeg_scan.proofs.NextCodeLemmas.{rate-next, with-more, with-noted}
 use Rattle.mpeg_scan.proofs.CodesBeforeLemmas.{slice-value}
 use Rattle.mpeg_scan.proofs.CodeSpacingLemmas.{slice-case, whole-is}
-use Rattle.mpeg_scan.proofs.ScanStepLemmas.{NotedCode, judged_at}
-use Rattle.mpeg_scan.proofs.ScanStepLemmas.{otherwise-second}
+use Rattle.mpeg_scan.proofs.ScanStepLemmas.{NotedCode, judged_at, otherwise-second}
 use Rattle.mpeg_scan.proofs.PartTilingLemmas.{ended-none, first_slice-accepted, first_slice-head}
 
 -- ---- a byte more of a header changes none of it
@@ -228,8 +224,7 @@ pub coded-awaits : {m : Progress} (Ready : ℕ → Type 0) (c : NotedCode)
     → m ≡ scan_with_code c.noted (c.before.fed - 3) c.byte
     → AwaitsSliceAfter Ready (tally_now c.noted) (c.before.fed - 3) c.byte → AwaitsSlice Ready (tally_now m)
 unfolding next
-coded-awaits Ready c is awaits =
-    subst (λ (v : Progress). AwaitsSlice Ready (tally_now v)) (sym is) awaits
+coded-awaits Ready c is awaits = subst (λ (v : Progress). AwaitsSlice Ready (tally_now v)) (sym is) awaits
 
 -- ---- as a run is passed over
 

@@ -1,10 +1,8 @@
 -- After one more byte, and one more code, the scanner's state still matches the bytes.
-use Rattle.std.proofs.Common.{ℕ, Bool, true, false, cond, eqb, ltb, leb, ◌+◌, ◌-◌, ◌^◌, ◌<◌, ◌≤◌}
-use Rattle.std.proofs.Common.{◌≡◌, List, [], ◌∷◌, ◌++◌, Option, Some, None, length, sym, ◌∙◌, ap}
-use Rattle.std.proofs.Common.{refl, subst, arith}
+use Rattle.std.proofs.Common.{ℕ, Bool, true, false, cond, eqb, ltb, leb, ◌+◌, ◌-◌, ◌^◌, ◌<◌, ◌≤◌, ◌≡◌, List, [], ◌∷◌}
+use Rattle.std.proofs.Common.{◌++◌, Option, Some, None, length, sym, ◌∙◌, ap, refl, subst, arith}
 use Rattle.std.specs.Option.{option_map}
-use Rattle.std.proofs.lemmas.Bool.{eqb-false, leb-false, ne_eqb, eq-eqb, le-ltb, lt-ltb}
-use Rattle.std.proofs.lemmas.Bool.{cond-true, cond-false}
+use Rattle.std.proofs.lemmas.Bool.{eqb-false, leb-false, ne_eqb, eq-eqb, le-ltb, lt-ltb, cond-true, cond-false}
 use Rattle.std.proofs.lemmas.List.{append_assoc}
 use Rattle.mpeg_scan.specs.declared.codes.Code.{Code}
 use Rattle.mpeg_scan.specs.declared.faults.FilmFault.{FilmFault}
@@ -17,8 +15,7 @@ use Rattle.mpeg_scan.specs.FilmFaults.{first_refusal, latest_fault, value_fault,
 use Rattle.mpeg_scan.specs.FilmFaults.{first_slice_fault, count_fault, code_fault, fault_at}
 use Rattle.mpeg_scan.specs.FilmFaults.{first_fault, end_fault, last_fault, refusal_of}
 use Rattle.mpeg_scan.specs.Calls.{Call, calls_at, calls_of}
-use Rattle.mpeg_scan.specs.CodeSteps.{next, tally_with, code_judgement, end_judgement, latest_of}
-use Rattle.mpeg_scan.specs.CodeSteps.{older_of}
+use Rattle.mpeg_scan.specs.CodeSteps.{next, tally_with, code_judgement, end_judgement, latest_of, older_of}
 use Rattle.mpeg_scan.specs.ScannerState.{HasReadBytes, scan_with_byte, scan_with_code}
 use Rattle.mpeg_scan.proofs.CodeLemmas.{matched-more}
 

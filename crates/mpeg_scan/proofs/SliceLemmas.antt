@@ -1,12 +1,9 @@
 -- The slices of an accepted film are those of its slice codes, in their order.
-use Rattle.std.proofs.Common.{ℕ, Bool, true, false, cond, eqb, ltb, ◌+◌, ◌<◌, ◌≡◌, ◌⊎◌, ◌↔◌}
-use Rattle.std.proofs.Common.{List, [], ◌∷◌, ◌++◌, None, length, sym, ◌∙◌, ap, refl, subst, inl}
-use Rattle.std.proofs.Common.{inr, arith}
-use Rattle.std.proofs.lemmas.Bool.{cases_Bool, eqb-true, eq-eqb, ne_eqb, ltb-true, ltb-false}
-use Rattle.std.proofs.lemmas.Bool.{true≢false, false≢true}
+use Rattle.std.proofs.Common.{ℕ, Bool, true, false, cond, eqb, ltb, ◌+◌, ◌<◌, ◌≡◌, ◌⊎◌, ◌↔◌, List, [], ◌∷◌, ◌++◌, None}
+use Rattle.std.proofs.Common.{length, sym, ◌∙◌, ap, refl, subst, inl, inr, arith}
+use Rattle.std.proofs.lemmas.Bool.{cases_Bool, eqb-true, eq-eqb, ne_eqb, ltb-true, ltb-false, true≢false, false≢true}
 use Rattle.std.proofs.lemmas.List.{append-nil}
 use Rattle.mpeg_scan.proofs.CodesBeforeLemmas.{slice-value, value-slice}
-use Rattle.std.proofs.lemmas.Bool.{cases_Bool}
 use Rattle.mpeg_scan.specs.declared.codes.Code.{Code}
 use Rattle.mpeg_scan.specs.declared.units.Unit.{Unit as PictureUnit}
 use Rattle.mpeg_scan.specs.StartCodes.{read_after, codes_of}
@@ -16,10 +13,8 @@ use Rattle.mpeg_scan.specs.Calls.{calls_at, calls_of, unit_end}
 use Rattle.mpeg_scan.specs.Films.{IsFilm, slices_in}
 use Rattle.mpeg_scan.specs.CodePlaces.{HasCode, IsCodeAt}
 use Rattle.mpeg_scan.specs.StandardUnits.{IsAmong, IsSliceValue, StandsThere, slice_places}
-use Rattle.mpeg_scan.proofs.ScanStepLemmas.{otherwise-second, calls-cons}
-use Rattle.mpeg_scan.proofs.ScanStepLemmas.{accepted-whole}
-use Rattle.mpeg_scan.proofs.PartTilingLemmas.{CodeEnds, ended-none, raw_calls, slice-apart}
-use Rattle.mpeg_scan.proofs.PartTilingLemmas.{calls-nil, ends_at}
+use Rattle.mpeg_scan.proofs.ScanStepLemmas.{otherwise-second, calls-cons, accepted-whole}
+use Rattle.mpeg_scan.proofs.PartTilingLemmas.{CodeEnds, ended-none, raw_calls, slice-apart, calls-nil, ends_at}
 use Rattle.mpeg_scan.proofs.FilmLemmas.{slices_in-append}
 use Rattle.mpeg_scan.proofs.CodePlaceLemmas.{codes-stand}
 

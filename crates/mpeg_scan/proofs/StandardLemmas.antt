@@ -3,8 +3,7 @@ use Rattle.std.proofs.Common.{ℕ, Bool, true, false, cond, eqb, ltb, leb, ◌&&
 use Rattle.std.proofs.Common.{◌/◌, ◌%◌, ◌<◌, ◌≤◌, ◌≡◌, ◌⊎◌, ◌↔◌, List, [], ◌∷◌, Option, Some, None}
 use Rattle.std.proofs.Common.{length, get_or, sym, ◌∙◌, ap, refl, subst, inl, inr, arith}
 use Rattle.std.proofs.lemmas.Bool.{cond-true, cond-false, or_right, cases_lt, eq-eqb, ne_eqb, leb-true, ltb-false}
-use Rattle.std.proofs.lemmas.Bool.{or_parts}
-use Rattle.std.proofs.lemmas.Bool.{and_parts, false≢true}
+use Rattle.std.proofs.lemmas.Bool.{or_parts, and_parts, false≢true}
 use Rattle.mpeg_scan.specs.declared.codes.Code.{Code}
 use Rattle.mpeg_scan.specs.declared.faults.FilmFault.{FilmFault}
 use Rattle.mpeg_scan.specs.declared.faults.FilmFault.TheVariants.{BadType, ShortHeader}
@@ -17,10 +16,8 @@ use Rattle.mpeg_scan.specs.FilmFaults.{picture_fault, rate_fault}
 use Rattle.mpeg_scan.specs.Layout.{OfUnit}
 use Rattle.mpeg_scan.specs.Films.{IsFilm}
 use Rattle.mpeg_scan.specs.CodePlaces.{HasCode, IsCodeAt}
-use Rattle.mpeg_scan.specs.StandardUnits.{HasFields, IsUnitOf}
-use Rattle.mpeg_scan.specs.StandardUnits.{type_number, vector_fields}
-use Rattle.mpeg_scan.proofs.ScanStepLemmas.{otherwise-first, otherwise-second}
-use Rattle.mpeg_scan.proofs.ScanStepLemmas.{none-cond, some-cond-none}
+use Rattle.mpeg_scan.specs.StandardUnits.{HasFields, IsUnitOf, type_number, vector_fields}
+use Rattle.mpeg_scan.proofs.ScanStepLemmas.{otherwise-first, otherwise-second, none-cond, some-cond-none}
 use Rattle.mpeg_scan.proofs.ScanStepLemmas.{accepted-whole}
 use Rattle.mpeg_scan.proofs.CodeSpacingLemmas.{placed-codes, room-after}
 use Rattle.mpeg_scan.proofs.FilmLemmas.{length-read}
@@ -133,8 +130,7 @@ type-fits {bytes} {place} {forward} {backward} (three_type e) both =
     let its = both (inr e) in subst (λ m. TypeFits m bytes place forward backward) (sym e)
     (record {
       number = refl;
-      vectors =
-          ap (λ b. b * 16 + forward) its.1 ∙ ap (λ f. (get_or bytes (place + 8) 0 / 8 % 16) * 16 + f) its.0;
+      vectors = ap (λ b. b * 16 + forward) its.1 ∙ ap (λ f. (get_or bytes (place + 8) 0 / 8 % 16) * 16 + f) its.0;
     })
 type-fits {bytes} {place} {forward} {backward} (four_type e) both =
     subst (λ m. TypeFits m bytes place forward backward) (sym e) (record { number = refl; vectors = refl })

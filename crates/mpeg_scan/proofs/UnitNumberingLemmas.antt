@@ -1,11 +1,9 @@
 -- The reported units are numbered in their order.
-use Rattle.std.proofs.Common.{ℕ, suc, zero, Bool, true, false, not, cond, eqb, ltb, ◌&&◌, ◌||◌, ◌+◌}
-use Rattle.std.proofs.Common.{◌-◌, ◌<◌, ◌≤◌, ◌≡◌, List, [], ◌∷◌, ◌++◌, Option, Some, None, length}
-use Rattle.std.proofs.Common.{sym, ◌∙◌, ap, refl, subst, arith}
+use Rattle.std.proofs.Common.{ℕ, suc, zero, Bool, true, false, not, cond, eqb, ltb, ◌&&◌, ◌||◌, ◌+◌, ◌-◌, ◌<◌, ◌≤◌, ◌≡◌}
+use Rattle.std.proofs.Common.{List, [], ◌∷◌, ◌++◌, Option, Some, None, length, sym, ◌∙◌, ap, refl, subst, arith}
 use Rattle.std.specs.Option.{is_some, option_map}
 use Rattle.std.proofs.Math.Bool.{or-false}
-use Rattle.std.proofs.lemmas.Bool.{ltb-true, ltb-false, lt-ltb, eqb-true, ne_eqb, eq-eqb}
-use Rattle.std.proofs.lemmas.Bool.{true≢false, and_from}
+use Rattle.std.proofs.lemmas.Bool.{ltb-true, ltb-false, lt-ltb, eqb-true, ne_eqb, eq-eqb, true≢false, and_from}
 use Rattle.std.proofs.lemmas.Bool.{cond-true}
 use Rattle.mpeg_scan.specs.declared.codes.Code.{Code}
 use Rattle.mpeg_scan.specs.declared.tallies.Header.{Header}
@@ -22,9 +20,8 @@ use Rattle.mpeg_scan.specs.Calls.{calls_at, calls_of, all_calls}
 use Rattle.mpeg_scan.specs.UnitNumbering.{Count, group_of, next_count, counts_after, no_count, AreNumbered}
 use Rattle.mpeg_scan.proofs.PartTilingLemmas.{CodeEnds, after-append, raw_calls, ends_at, slice-apart, first_slice-accepted}
 use Rattle.mpeg_scan.proofs.PartTilingLemmas.{first-is, calls-nil, ended-none}
-use Rattle.mpeg_scan.proofs.ScanStepLemmas.{accepted-older, code-accepted, otherwise-first}
-use Rattle.mpeg_scan.proofs.ScanStepLemmas.{otherwise-second, calls-cons}
-use Rattle.mpeg_scan.proofs.ScanStepLemmas.{accepted-whole}
+use Rattle.mpeg_scan.proofs.ScanStepLemmas.{accepted-older, code-accepted, otherwise-first, otherwise-second}
+use Rattle.mpeg_scan.proofs.ScanStepLemmas.{calls-cons, accepted-whole}
 
 -- what codes sum up to: the pictures, all slices, those of the latest unit, the pictures before its group,
 -- whether it has its picture, and whether it starts a group
@@ -238,8 +235,7 @@ raw-count {t0 = false} {t3 = false} {t8 = true} {t = false} {q = false} here agr
     no-calls (group-agrees agrees (code.none refl) (code.fits.alone refl refl))
 raw-count {t0 = false} {t3 = true} {t8 = false} {t = false} {q = false} here agrees code next =
     no-calls (none-agrees agrees (code.none refl))
-raw-count {t0 = false} {t3 = false} {t8 = false} {t = false} here agrees code next =
-    no-calls agrees
+raw-count {t0 = false} {t3 = false} {t8 = false} {t = false} here agrees code next = no-calls agrees
 
 -- ---- all codes
 
@@ -352,8 +348,7 @@ first_sums c value = record {
   all = cond (is_slice value) (0 + 1) 0;
   slices = cond (is_head value) 0 (cond (is_slice value) (0 + 1) 0);
   before = cond (eqb value 0xb8) 0 0;
-  pictured =
-      is_some (cond (eqb value 0) (Some (header_of c)) (cond (true || (is_head value && ltb 0 0)) None None));
+  pictured = is_some (cond (eqb value 0) (Some (header_of c)) (cond (true || (is_head value && ltb 0 0)) None None));
   starts = cond (eqb value 0xb8 || true) true (cond (true || (is_head value && ltb 0 0)) false false);
 }
 

@@ -1,7 +1,6 @@
 -- The units of a film are the only ones that are as the standard says.
-use Rattle.std.proofs.Common.{ℕ, suc, Bool, true, false, cond, ◌+◌, ◌<◌, ◌≤◌, ◌≡◌, ◌⊎◌, List, []}
-use Rattle.std.proofs.Common.{◌∷◌, Some, length, slice_get, sym, ◌∙◌, ap, refl, subst, inl, inr}
-use Rattle.std.proofs.Common.{arith}
+use Rattle.std.proofs.Common.{ℕ, suc, Bool, true, false, cond, ◌+◌, ◌<◌, ◌≤◌, ◌≡◌, ◌⊎◌, List, [], ◌∷◌, Some, length}
+use Rattle.std.proofs.Common.{slice_get, sym, ◌∙◌, ap, refl, subst, inl, inr, arith}
 use Rattle.std.proofs.lemmas.Bool.{cases_lt}
 use Rattle.mpeg_scan.specs.declared.units.Kind.{Kind}
 use Rattle.mpeg_scan.specs.declared.units.Kind.TheVariants.{I, P, B, D}
@@ -11,9 +10,8 @@ use Rattle.mpeg_scan.specs.StartCodes.{codes_of, read_after}
 use Rattle.mpeg_scan.specs.Films.{IsFilm}
 use Rattle.mpeg_scan.specs.Layout.{AreChained}
 use Rattle.mpeg_scan.specs.CodePlaces.{IsCodeAt}
-use Rattle.mpeg_scan.specs.StandardUnits.{ArePresented, AreUnitsOf, Counts, HasFields}
-use Rattle.mpeg_scan.specs.StandardUnits.{IsFirstCode, IsHeadValue, IsSliceValue, IsUnitOf, StandsIn}
-use Rattle.mpeg_scan.specs.StandardUnits.{StandsThere, type_number, vector_fields}
+use Rattle.mpeg_scan.specs.StandardUnits.{ArePresented, AreUnitsOf, Counts, HasFields, IsFirstCode, IsHeadValue}
+use Rattle.mpeg_scan.specs.StandardUnits.{IsSliceValue, IsUnitOf, StandsIn, StandsThere, type_number, vector_fields}
 use Rattle.mpeg_scan.specs.PartTiling.{first_of}
 use Rattle.mpeg_scan.proofs.FirstUnitLemmas.{film-first}
 use Rattle.mpeg_scan.proofs.UnitLayoutLemmas.{film-chained}
@@ -186,8 +184,7 @@ record Onward : Type 0 where
   group : ℕ
 
 abbrev after_unit : Onward → PictureUnit → Onward
-after_unit at u =
-    record { from = u.to; number = at.number + 1; group = cond u.starts_group at.number at.group }
+after_unit at u = record { from = u.to; number = at.number + 1; group = cond u.starts_group at.number at.group }
 
 -- such a unit that begins there and is numbered so
 record IsNumberedUnit (bytes : List ℕ) (at : Onward) (u : PictureUnit) : Type 0 where

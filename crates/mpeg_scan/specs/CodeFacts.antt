@@ -115,8 +115,7 @@ backward_of c = slice_index c.header 4 / 8 % 16
 
 -- the kind of a picture of type 1 to 4
 abbrev pub kind_of : ℕ → Kind
-kind_of type =
-    if type == 1 then I else (if type == 2 then P else (if type == 3 then B else D))
+kind_of type = if type == 1 then I else (if type == 2 then P else (if type == 3 then B else D))
 
 -- the four fields of a picture's vectors as a byte: the backward ones in the high half, and 0 for
 -- those that its kind doesn't have

@@ -41,8 +41,7 @@ next_head_end t c =
     else (if is_head c.value then 0 else t.head_end)
 
 abbrev pub next_slice : Tally → Code → ℕ
-next_slice t c =
-    if is_slice c.value then c.place else (if is_head c.value then 0 else t.slice)
+next_slice t c = if is_slice c.value then c.place else (if is_head c.value then 0 else t.slice)
 
 abbrev pub next_has_sequence : Tally → Code → Bool
 next_has_sequence t c =

@@ -3,8 +3,7 @@ use Rattle.std.specs.Prelude.{ℕ, ◌-◌, ◌*◌, ◌≡◌, List, [], ◌∷
 
 -- the times of the codes from 1 on, in 1/360,000 second
 abbrev pub picture_times : List ℕ
-picture_times =
-    15015 ∷ 15000 ∷ 14400 ∷ 12012 ∷ 12000 ∷ 7200 ∷ 6006 ∷ 6000 ∷ []
+picture_times = 15015 ∷ 15000 ∷ 14400 ∷ 12012 ∷ 12000 ∷ 7200 ∷ 6006 ∷ 6000 ∷ []
 
 -- the time of a picture in 1/360,000 second, by the code
 abbrev pub picture_time : ℕ → ℕ

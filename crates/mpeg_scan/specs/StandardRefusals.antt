@@ -2,9 +2,8 @@
 -- bytes, and these bytes. Each start code is judged in order, and the film's end last: a refusal
 -- speaks of the codes before a place `at`, where the code stands that is judged, or the film ends.
 -- A word takes `Has`: that a code of a value stands at a place.
-use Rattle.std.specs.Prelude.{ℕ, ◌+◌, ◌%◌, ◌==◌, ◌<◌, ◌≤◌, ◌≡◌, ◌⊎◌, ◌||◌, Bool, List}
-use Rattle.std.specs.Prelude.{length, if◌then◌else◌}
-use Rattle.std.specs.Prelude.{slice_index}
+use Rattle.std.specs.Prelude.{ℕ, ◌+◌, ◌%◌, ◌==◌, ◌<◌, ◌≤◌, ◌≡◌, ◌⊎◌, ◌||◌, Bool, List, length}
+use Rattle.std.specs.Prelude.{if◌then◌else◌, slice_index}
 use Rattle.mpeg_scan.specs.declared.units.TheConstants.{MAX_FILM_BYTES, MAX_GROUP_PICTURES}
 use Rattle.mpeg_scan.specs.declared.units.TheConstants.{MAX_UNIT_HEAD_BYTES}
 use Rattle.vod_base.specs.declared.limits.TheConstants.{MAX_FILM_PICTURES}
@@ -16,8 +15,7 @@ use Rattle.mpeg_scan.specs.declared.faults.FilmFault.TheVariants.{HeadTooLong, G
 use Rattle.mpeg_scan.specs.declared.faults.FilmFault.TheVariants.{TooLong, HeadWithoutPicture}
 use Rattle.mpeg_scan.specs.CodePlaces.{IsCodeAt}
 use Rattle.mpeg_scan.specs.StandardUnits.{AnyValue, AreCodes, IsFirstCode, IsHeadValue}
-use Rattle.mpeg_scan.specs.StandardUnits.{IsSliceValue}
-use Rattle.mpeg_scan.specs.StandardUnits.{NoneIn, StandsThere, picture_coding_type}
+use Rattle.mpeg_scan.specs.StandardUnits.{IsSliceValue, NoneIn, StandsThere, picture_coding_type}
 
 -- ---- the order of refusals
 

@@ -22,11 +22,7 @@ next_count k (slice_call from to) = Some (record k { slices = k.slices + 1 })
 next_count k (unit_call unit) =
     if unit.first_slice + unit.slices == k.slices
     && unit.presentation == group_of k unit + unit.temporal
-    then Some (record {
-      units = k.units + 1;
-      slices = k.slices;
-      before_group = group_of k unit;
-    })
+    then Some (record { units = k.units + 1; slices = k.slices; before_group = group_of k unit })
     else None
 
 -- the count after all these, if each agrees

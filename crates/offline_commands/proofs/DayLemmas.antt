@@ -10,9 +10,8 @@ use Rattle.std.specs.List.{Contains}
 use Rattle.std.proofs.Math.ListN.{get_or-map}
 use Rattle.std.proofs.lemmas.Bool.{cases_lt}
 use Rattle.std.proofs.lemmas.Option.{none-some}
-use Rattle.std.proofs.lemmas.List.{length-append, length-map, length-take, take-append-drop}
-use Rattle.std.proofs.lemmas.List.{get_or-take, get_or_append_left, get_or-append_right}
-use Rattle.std.proofs.lemmas.List.{get_or_push, get_or_read_under}
+use Rattle.std.proofs.lemmas.List.{length-append, length-map, length-take, take-append-drop, get_or-take}
+use Rattle.std.proofs.lemmas.List.{get_or_append_left, get_or-append_right, get_or_push, get_or_read_under}
 use Rattle.std.proofs.lemmas.List.Elements.{All-cons, All-head, All-nil, All-tail}
 use Rattle.day_script.specs.declared.scripts.Named.{Named}
 use Rattle.day_run.specs.declared.media.Source.{Source}
@@ -261,11 +260,7 @@ read_lines (Some reading) = reading.lines
 
 -- what was read of a script's text
 abbrev reading_in : Script → ℕ → Reading
-reading_in script slot = record {
-  lines = script.lines.items;
-  names = names_of script.named.items;
-  slot = slot;
-}
+reading_in script slot = record { lines = script.lines.items; names = names_of script.named.items; slot = slot }
 
 -- what is read of a script is always the same
 same_reading : (held : List File) (name : List ℕ) (a b : Script) (p : HoldsScript held name a)
@@ -291,8 +286,7 @@ lines_once held name a b p q = ap read_lines (same_reading held name a b p q)
 -- a film or trace that is held in place of another of its name and kind
 pub same_name : (a b : Named) → name_of a ≡ name_of b → (held : List File) (source : Source)
     → IsHeldAs held a source → IsHeldAs held b source
-same_name a b same held source is =
-    subst (λ (n : Name). IsHeldUnder n.kind held n.name source) same is
+same_name a b same held source is = subst (λ (n : Name). IsHeldUnder n.kind held n.name source) same is
 
 pub day_not_refused : {held : List File} {script : List ℕ} {read : Script} {sources : List Source} (name : List ℕ)
     (fault : InputError) → HoldsScript held script read →

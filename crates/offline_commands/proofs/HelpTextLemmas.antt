@@ -7,8 +7,7 @@ use Rattle.cli_args.specs.ArgumentText.{name_of}
 use Rattle.cli_args.specs.Invocations.{Invocation, help, version, plan_of, check_of, scan_of, make_of}
 use Rattle.cli_args.specs.Invocations.{day_of, fair_of, serve_of, watch_of}
 use Rattle.cli_args.specs.declared.subcommands.Subcommand.{Subcommand}
-use Rattle.cli_args.specs.declared.subcommands.Subcommand.TheVariants.{Plan, Check, Scan, Make, Day, Fair, Serve}
-use Rattle.cli_args.specs.declared.subcommands.Subcommand.TheVariants.{Watch}
+use Rattle.cli_args.specs.declared.subcommands.Subcommand.TheVariants.{Plan, Check, Scan, Make, Day, Fair, Serve, Watch}
 use Rattle.offline_commands.specs.HelpLaws.{fits_into, shows_command, shows_default, shows_key}
 use Rattle.offline_commands.specs.HelpText.{help_text}
 

@@ -28,9 +28,8 @@ use Rattle.inputs.proofs.VideoLemmas.{held_not_refused, held_once}
 use Rattle.cli_args.specs.Invocations.{PlanSource, trace_source, film_source, ClientParams}
 use Rattle.inputs.proofs.TraceLineLemmas.{same_somes}
 use Rattle.offline_commands.specs.OfflineCommands.{IsScanned}
-use Rattle.offline_commands.specs.Plans.{ArePictures, HasCurves, HoldsTrace, IsPlanned}
-use Rattle.offline_commands.specs.Plans.{IsSourceRefused, IsTraceRefused, IsPlanRefused, Pictures}
-use Rattle.offline_commands.specs.Plans.{timing_of}
+use Rattle.offline_commands.specs.Plans.{ArePictures, HasCurves, HoldsTrace, IsPlanned, IsSourceRefused, IsTraceRefused}
+use Rattle.offline_commands.specs.Plans.{IsPlanRefused, Pictures, timing_of}
 use Rattle.offline_commands.specs.ScanText.{scan_text}
 use Rattle.cli_errors.specs.declared.errors.InputError.{InputError}
 use Rattle.cli_errors.specs.declared.errors.InputError.TheVariants.{BadTrace, Curves}

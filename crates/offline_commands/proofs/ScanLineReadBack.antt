@@ -1,7 +1,6 @@
 -- What the lines of a scan say, read back word by word.
-use Rattle.std.proofs.Common.{◌≡◌, ◌≢◌, ◌∙◌, ℕ, ◌<◌, ◌^◌, ◌==◌, ◌||◌, Bool, true, false, List, []}
-use Rattle.std.proofs.Common.{◌∷◌, ◌++◌, All, map, Option, Some, None, codes, decimal, length}
-use Rattle.std.proofs.Common.{get_or, refl, sym, ap, arith}
+use Rattle.std.proofs.Common.{◌≡◌, ◌≢◌, ◌∙◌, ℕ, ◌<◌, ◌^◌, ◌==◌, ◌||◌, Bool, true, false, List, [], ◌∷◌, ◌++◌, All, map}
+use Rattle.std.proofs.Common.{Option, Some, None, codes, decimal, length, get_or, refl, sym, ap, arith}
 use Rattle.std.specs.Prelude.{◌≤◌, if◌then◌else◌, ◌&&◌, nat_lt, slice_index_or}
 use Rattle.std.specs.List.{after_first, before_first, list_any, position_or_len}
 use Rattle.std.specs.Str.{bytes_eq}

@@ -1,9 +1,7 @@
 -- The lines of units, piece by piece, and the words at their end.
-use Rattle.std.proofs.Common.{◌≡◌, ℕ, ◌+◌, ◌-◌, ◌≤◌, List, [], ◌∷◌, ◌++◌, All, codes, drop, length, take}
-use Rattle.std.proofs.Common.{sym, subst, ap, ◌∙◌, arith, add-zero}
-use Rattle.std.specs.Prelude.{slice_range}
-use Rattle.std.proofs.Common.{get_or, ◌<◌, Bool, Option, Result}
-use Rattle.std.specs.Prelude.{OnErr, OnOk, is_ok}
+use Rattle.std.proofs.Common.{◌≡◌, ℕ, ◌+◌, ◌-◌, ◌≤◌, List, [], ◌∷◌, ◌++◌, All, codes, drop, length, take, sym, subst}
+use Rattle.std.proofs.Common.{ap, ◌∙◌, arith, add-zero, get_or, ◌<◌, Bool, Option, Result}
+use Rattle.std.specs.Prelude.{slice_range, OnErr, OnOk, is_ok}
 use Rattle.std.proofs.Math.Seq.{take-add}
 use Rattle.std.proofs.lemmas.List.{append_assoc, drop_more, length-drop, length-take-le, take_all}
 use Rattle.std.proofs.lemmas.List.Elements.{All-append, All-cons}
@@ -62,8 +60,7 @@ lines-end head units place end past =
 
 -- what stands in a piece from a place on
 pub piece-from : (piece : List ℕ) (start : ℕ) → slice_range piece start (length piece) ≡ drop start piece
-piece-from piece start =
-    take_all (length piece - start) (drop start piece) (omega (arith, length-drop start piece))
+piece-from piece start = take_all (length piece - start) (drop start piece) (omega (arith, length-drop start piece))
 
 pub written-if : {faults faults' : ℕ} {told told' : Option (List ℕ)} {text : List ℕ} {is is' : Bool} → is ≡ is' →
     IsTextWritten faults faults' told told' text is → IsTextWritten faults faults' told told' text is'
@@ -99,5 +96,4 @@ pub written-by : {faults faults' : ℕ} {told told' : Option (List ℕ)} {part :
     (r : Result (Unit {0}) SinkFault) → is ≡ is_ok r → faults ≤ faults' → OnErr r (HasRisen faults faults') →
     OnOk r (told' ≡ told_more told part) → OnErr r (IsWrittenPrefix told told' part) →
     IsTextWritten faults faults' told told' part is
-written-by r is count fault whole front =
-    written-if (sym is) (said_by r count fault whole front)
+written-by r is count fault whole front = written-if (sym is) (said_by r count fault whole front)

@@ -14,9 +14,8 @@ use Rattle.mpeg_scan.specs.declared.units.Kind.TheVariants.{I, P, B, D}
 use Rattle.mpeg_scan.specs.declared.units.Unit.{Unit as PictureUnit}
 use Rattle.cert_check.specs.CertFaults.{fault_number}
 use Rattle.cert_check.specs.declared.CertFault.{CertFault}
-use Rattle.cert_check.specs.declared.CertFault.TheVariants.{EmptySegment, WrongLength, WrongTotal}
-use Rattle.cert_check.specs.declared.CertFault.TheVariants.{BelowLow, AboveUp, EqualSlopes}
-use Rattle.cert_check.specs.declared.CertFault.TheVariants.{RiseOffUpper, FallOffLower}
+use Rattle.cert_check.specs.declared.CertFault.TheVariants.{EmptySegment, WrongLength, WrongTotal, BelowLow, AboveUp}
+use Rattle.cert_check.specs.declared.CertFault.TheVariants.{EqualSlopes, RiseOffUpper, FallOffLower}
 use Rattle.plan_cert.proofs.DecimalLemmas.{not_in_decimal}
 use Rattle.cli_errors.specs.StreamWrites.{number_text}
 use Rattle.vod_base.proofs.SplitLemmas.{none_is}
@@ -24,8 +23,7 @@ use Rattle.cli_errors.proofs.NumberTextLemmas.{AreShort, HasNo, numbers_back, nu
 use Rattle.offline_commands.specs.ScanText.{film_line, kind_text, word_if, scan_text, unit_line}
 use Rattle.offline_commands.specs.ScanText.{unit_lines, unit_marks, unit_places}
 use Rattle.offline_commands.specs.TextLaws.{AreAlike, IsSameScan, IsShortFault, IsShortUnit}
-use Rattle.offline_commands.specs.VerdictText.{refused_line}
-use Rattle.offline_commands.specs.VerdictText.{cert_fault_text, fault_name}
+use Rattle.offline_commands.specs.VerdictText.{refused_line, cert_fault_text, fault_name}
 use Rattle.offline_commands.proofs.NumberFieldLemmas.{field_cut, line_cut, two_cut}
 use Rattle.offline_commands.proofs.ScanTextLemmas.{marks}
 

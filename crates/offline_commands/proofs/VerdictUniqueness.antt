@@ -9,9 +9,8 @@ use Rattle.plan_cert.specs.CertGrammar.{IsBadLine, IsCertificate}
 use Rattle.plan_cert.proofs.CertUniqueness.{certificate_has_no_bad_line, one_certificate}
 use Rattle.cert_check.specs.CertFaults.{IsFirstFault, IsTaut, HasCertFault, kind_of, fault_number}
 use Rattle.cert_check.specs.declared.CertFault.{CertFault}
-use Rattle.cert_check.specs.declared.CertFault.TheVariants.{EmptySegment, WrongLength, WrongTotal}
-use Rattle.cert_check.specs.declared.CertFault.TheVariants.{BelowLow, AboveUp, EqualSlopes}
-use Rattle.cert_check.specs.declared.CertFault.TheVariants.{RiseOffUpper, FallOffLower}
+use Rattle.cert_check.specs.declared.CertFault.TheVariants.{EmptySegment, WrongLength, WrongTotal, BelowLow, AboveUp}
+use Rattle.cert_check.specs.declared.CertFault.TheVariants.{EqualSlopes, RiseOffUpper, FallOffLower}
 use Rattle.inputs.proofs.ReadLemmas.{one_file}
 use Rattle.cli_args.specs.Invocations.{ClientParams, check_of}
 use Rattle.cli_errors.specs.declared.errors.InputError.{InputError}

@@ -11,8 +11,7 @@ use Rattle.film_make.specs.Trace.{trace_of}
 use Rattle.film_make.specs.Film.{film_of}
 use Rattle.film_make.specs.SystemStream.{system_of}
 use Rattle.cli_args.specs.Invocations.{Invocation, help, version, plan_of, check_of, scan_of}
-use Rattle.cli_args.specs.Invocations.{make_of}
-use Rattle.cli_args.specs.Invocations.{day_of, fair_of, serve_of, watch_of}
+use Rattle.cli_args.specs.Invocations.{make_of, day_of, fair_of, serve_of, watch_of}
 use Rattle.cli_args.specs.InvocationViews.{source_name}
 use Rattle.cli_args.specs.declared.invocations.MediaKind.{MediaKind}
 use Rattle.cli_args.specs.declared.invocations.MediaKind.TheVariants.{Film, Trace, System}

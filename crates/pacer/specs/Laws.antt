@@ -4,8 +4,7 @@ use Rattle.std.specs.Prelude.{slice_index}
 use Rattle.film_frames.specs.Tracks.{IsBoundary, IsBoundaryAfter, framed_bytes}
 use Rattle.plan_cert.specs.PlanSlots.{plan_slots, sum_through, total_bytes}
 use Rattle.pacer.specs.PacerStates.{IsPacerState, PacerState, at_slot, after_step, is_done}
-use Rattle.pacer.specs.PacerStates.{plan_bytes}
-use Rattle.pacer.specs.PacerStates.{stands_at_boundary}
+use Rattle.pacer.specs.PacerStates.{plan_bytes, stands_at_boundary}
 
 -- a fact of each pacing and each slot of the link
 abbrev pub OfSteps : (PacerState → ℕ → Type 0) → Type 0

@@ -18,9 +18,8 @@ use Rattle.plan_cert.specs.CertGrammar.{AreSmall, BreaksAt, HasReadLines, HasWro
 use Rattle.plan_cert.specs.CertGrammar.{IsCertificate, IsOneLine, Lines, MayEnd}
 use Rattle.plan_cert.specs.CertGrammar.{MayStand, begun_text, line_at, lines_of}
 use Rattle.plan_cert.specs.CertGrammar.MayStand.{Bytes, SegmentLine, Slots, Title}
-use Rattle.plan_cert.proofs.CertUniqueness.{Contents, IsSame, end_is_no_segment, lines_are, lines-certificate}
-use Rattle.plan_cert.proofs.CertUniqueness.{no_break, nothing_after, number_clean, one_text}
-use Rattle.plan_cert.proofs.CertUniqueness.{begun_of, contents, words_clean}
+use Rattle.plan_cert.proofs.CertUniqueness.{Contents, IsSame, end_is_no_segment, lines_are, lines-certificate, no_break}
+use Rattle.plan_cert.proofs.CertUniqueness.{nothing_after, number_clean, one_text, begun_of, contents, words_clean}
 use Rattle.plan_cert.proofs.GrammarLemmas.{breaks_here, breaks_missing, goes_after_end, head_joined, next_is, not_bytes}
 use Rattle.plan_cert.proofs.GrammarLemmas.{not_one_more, not_segment, not_slots, not_title, read_more, read_none}
 
@@ -292,12 +291,10 @@ well-formed : {text : List ℕ} {i : ℕ} (wrong : HasWrongSum text i)
 well-formed wrong = ap lines_of wrong.text_is ∙ lines-certificate (contents wrong)
 
 no-break-there : {text : List ℕ} {i j : ℕ} → HasWrongSum text i → BreaksAt (lines_of text) j → ⊥
-no-break-there {j} wrong breaks =
-    no_break (contents wrong) (subst (λ ls. BreaksAt ls j) (well-formed wrong) breaks)
+no-break-there {j} wrong breaks = no_break (contents wrong) (subst (λ ls. BreaksAt ls j) (well-formed wrong) breaks)
 
 no-end-there : {text : List ℕ} {i j : ℕ} → HasWrongSum text i → IsAfterEnd (lines_of text) j → ⊥
-no-end-there {j} wrong after =
-    nothing_after (contents wrong) (subst (λ ls. IsAfterEnd ls j) (well-formed wrong) after)
+no-end-there {j} wrong after = nothing_after (contents wrong) (subst (λ ls. IsAfterEnd ls j) (well-formed wrong) after)
 
 one-sum : {text : List ℕ} {i j : ℕ} → HasWrongSum text i → HasWrongSum text j → i ≡ j
 one-sum one other =

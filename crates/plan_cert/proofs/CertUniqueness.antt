@@ -14,9 +14,8 @@ use Rattle.plan_cert.specs.declared.cert_reader.CertRead.{CertRead}
 use Rattle.plan_cert.specs.declared.cert_reader.CertRead.TheVariants.{BadCert, NoMemory}
 use Rattle.plan_cert.specs.PlanSlots.{total_slots, total_bytes}
 use Rattle.plan_cert.specs.CertFormat.{segment_words, segment_line, cert_head}
-use Rattle.plan_cert.specs.CertGrammar.{Lines, lines_of, line_at, MayStand, BreaksAt, IsAfterEnd, AreSmall}
-use Rattle.plan_cert.specs.CertGrammar.{HasWrongSum, IsCertificate}
-use Rattle.plan_cert.specs.CertGrammar.{IsBadLine, IsCertRefusal}
+use Rattle.plan_cert.specs.CertGrammar.{Lines, lines_of, line_at, MayStand, BreaksAt, IsAfterEnd, AreSmall, HasWrongSum}
+use Rattle.plan_cert.specs.CertGrammar.{IsCertificate, IsBadLine, IsCertRefusal}
 use Rattle.plan_cert.specs.CertGrammar.MayStand.{Title, Slots, Bytes, SegmentLine}
 use Rattle.vod_base.proofs.SplitLemmas.{none_is, split_once}
 use Rattle.plan_cert.proofs.DecimalLemmas.{not_in_decimal}

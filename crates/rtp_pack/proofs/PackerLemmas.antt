@@ -1,14 +1,12 @@
 -- The packer's invariant: the packets so far, and those that the rest of the unit gives.
-use Rattle.std.proofs.Common.{◌≡◌, ℕ, ◌+◌, ◌-◌, ◌<◌, ◌≤◌, List, [], ◌∷◌, ◌++◌}
-use Rattle.std.proofs.Common.{append_assoc, drop, length, get_or, refl, sym, ap, subst, ◌∙◌, arith}
-use Rattle.std.proofs.Common.{drop-cons, add-one}
+use Rattle.std.proofs.Common.{◌≡◌, ℕ, ◌+◌, ◌-◌, ◌<◌, ◌≤◌, List, [], ◌∷◌, ◌++◌, append_assoc, drop, length, get_or, refl}
+use Rattle.std.proofs.Common.{sym, ap, subst, ◌∙◌, arith, drop-cons, add-one}
 use Rattle.std.proofs.Math.ListN.{drop_of_length-le}
 use Rattle.mpeg_scan.specs.declared.units.Unit.{Unit as PictureUnit}
 use Rattle.rtp_pack.specs.declared.open_packet.OpenPacket.{OpenPacket}
 use Rattle.rtp_pack.specs.declared.payloads.Packet.{Packet}
 use Rattle.rtp_pack.specs.Packetization.{next_filling}
-use Rattle.rtp_pack.specs.Packets.{AreInOrder, filling_packet, lengths_to, next_place}
-use Rattle.rtp_pack.specs.Packets.{packets_from, slice_packets}
+use Rattle.rtp_pack.specs.Packets.{AreInOrder, filling_packet, lengths_to, next_place, packets_from, slice_packets}
 
 -- the slices from a place of the list on
 pub from-place : (starts : List ℕ) (i : ℕ) → i < length starts → drop i starts ≡ get_or starts i 0 ∷ drop (i + 1) starts

@@ -1,7 +1,6 @@
 -- What the rules for cutting come to, in a reader's words.
-use Rattle.std.proofs.Common.{◌≡◌, ℕ, zero, suc, ◌+◌, ◌*◌, ◌<◌, ◌≤◌, Bool, true, false, cond, eqb}
-use Rattle.std.proofs.Common.{leb, List, [], ◌∷◌, ◌++◌, sum, refl, sym, ap, subst, ◌∙◌, arith, inl}
-use Rattle.std.proofs.Common.{inr}
+use Rattle.std.proofs.Common.{◌≡◌, ℕ, zero, suc, ◌+◌, ◌*◌, ◌<◌, ◌≤◌, Bool, true, false, cond, eqb, leb, List, [], ◌∷◌}
+use Rattle.std.proofs.Common.{◌++◌, sum, refl, sym, ap, subst, ◌∙◌, arith, inl, inr}
 use Rattle.std.proofs.lemmas.Bool.{both_ways, eq-eqb, le-leb, lt-leb, or_left, or_right}
 use Rattle.std.proofs.lemmas.List.Sums.{sum_by-cons}
 use Rattle.rtp_pack.specs.declared.open_packet.TheConstants.{MAX_PAYLOAD_BYTES}

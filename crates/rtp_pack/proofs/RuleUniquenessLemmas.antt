@@ -1,7 +1,6 @@
 -- Exactly one list of cut points meets the rules, and it is the packer's.
-use Rattle.std.proofs.Common.{◌≡◌, ℕ, zero, suc, ◌+◌, ◌*◌, ◌<◌, ◌≤◌, ◌⊎◌, Bool, true, false, cond}
-use Rattle.std.proofs.Common.{eqb, leb, ◌||◌, List, [], ◌∷◌, ◌++◌, sum, refl, sym, ap, subst, ◌∙◌}
-use Rattle.std.proofs.Common.{arith, inl, inr}
+use Rattle.std.proofs.Common.{◌≡◌, ℕ, zero, suc, ◌+◌, ◌*◌, ◌<◌, ◌≤◌, ◌⊎◌, Bool, true, false, cond, eqb, leb, ◌||◌, List}
+use Rattle.std.proofs.Common.{[], ◌∷◌, ◌++◌, sum, refl, sym, ap, subst, ◌∙◌, arith, inl, inr}
 use Rattle.std.proofs.lemmas.Bool.{both_ways, cases_lt, eq-eqb, ne_eqb, le-leb, lt-leb, leb-false}
 use Rattle.std.proofs.lemmas.Bool.{le-ltb, ltb-false, or_from, or_right}
 use Rattle.rtp_pack.specs.declared.open_packet.TheConstants.{MAX_PAYLOAD_BYTES}
@@ -326,8 +325,7 @@ reads-next {at} {f} {n} {slices} last reads = record {
 
 may-end : {at : Places} {slices : List ℕ} {f : OpenPacket} (cuts : List ℕ) → Reads at f slices → Cuts f slices cuts
     → MayAllEnd (MayBy at) f.from cuts
-may-end {at} {slices = []} {f} cuts reads e =
-    subst (λ (l : List ℕ). MayAllEnd (MayBy at) f.from l) (sym e) tt
+may-end {at} {slices = []} {f} cuts reads e = subst (λ (l : List ℕ). MayAllEnd (MayBy at) f.from l) (sym e) tt
 may-end {at} {slices = n ∷ slices} {f} cuts reads (inl x) =
     let last = f.from + MAX_PAYLOAD_BYTES * x.1.full in
     let rest = may-end {at = at} {slices = slices} {f = filling_after f n last} x.1.rest (reads-next last reads)

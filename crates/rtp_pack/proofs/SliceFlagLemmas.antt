@@ -1,10 +1,8 @@
 -- What the packets say of their portions is so: where a portion begins with a slice, and where it ends with one.
-use Rattle.std.proofs.Common.{◌≡◌, ℕ, zero, suc, ◌+◌, ◌-◌, ◌*◌, ◌<◌, ◌≤◌, ◌≢◌, Bool, true, false}
-use Rattle.std.proofs.Common.{cond, eqb, leb, ltb, ◌&&◌, ◌||◌, List, [], ◌∷◌, ◌++◌, refl, sym, ap}
-use Rattle.std.proofs.Common.{subst, ◌∙◌, arith}
-use Rattle.std.proofs.lemmas.Bool.{eq-eqb, ne_eqb, le-ltb, leb-true, leb-false, lt-ltb, ltb-true}
-use Rattle.std.proofs.lemmas.Bool.{and_from, and_left, and_right, or_from, or_left, or_right}
-use Rattle.std.proofs.lemmas.Bool.{true≢false}
+use Rattle.std.proofs.Common.{◌≡◌, ℕ, zero, suc, ◌+◌, ◌-◌, ◌*◌, ◌<◌, ◌≤◌, ◌≢◌, Bool, true, false, cond, eqb, leb, ltb}
+use Rattle.std.proofs.Common.{◌&&◌, ◌||◌, List, [], ◌∷◌, ◌++◌, refl, sym, ap, subst, ◌∙◌, arith}
+use Rattle.std.proofs.lemmas.Bool.{eq-eqb, ne_eqb, le-ltb, leb-true, leb-false, lt-ltb, ltb-true, and_from, and_left}
+use Rattle.std.proofs.lemmas.Bool.{and_right, or_from, or_left, or_right, true≢false}
 use Rattle.rtp_pack.specs.declared.open_packet.TheConstants.{MAX_PAYLOAD_BYTES}
 use Rattle.mpeg_scan.specs.declared.units.Unit.{Unit as PictureUnit}
 use Rattle.rtp_pack.specs.declared.open_packet.OpenPacket.{OpenPacket}
@@ -237,8 +235,7 @@ begins-start next x above = by-case (goes_in f n) refl
     here LastFragment begin alone other = absurd (other refl)
 
     by-case : (goes : Bool) → goes_in f n ≡ goes → begins unit all (start_of goes f) x ≡ true
-    by-case true e =
-        here f.holds right.begin right.alone (not-last f.from f.at n f.holds (leb n MAX_PAYLOAD_BYTES) e)
+    by-case true e = here f.holds right.begin right.alone (not-last f.from f.at n f.holds (leb n MAX_PAYLOAD_BYTES) e)
     by-case false e = or_left (is_among f.at all) (eqb f.at unit.from && ltb unit.head_end x) next.slice.starts
 
 -- full portions before the end of a slice, whether it goes in or not

@@ -1,14 +1,12 @@
 -- The packets of a unit that is laid out in its film.
-use Rattle.std.proofs.Common.{◌≡◌, ℕ, ◌+◌, ◌-◌, ◌*◌, ◌≤◌, List, [], ◌∷◌, sum, refl, sym, ap, subst}
-use Rattle.std.proofs.Common.{◌∙◌, arith}
+use Rattle.std.proofs.Common.{◌≡◌, ℕ, ◌+◌, ◌-◌, ◌*◌, ◌≤◌, List, [], ◌∷◌, sum, refl, sym, ap, subst, ◌∙◌, arith}
 use Rattle.rtp_pack.specs.declared.reports.TheConstants.{REPORT_BYTES}
 use Rattle.rtp_pack.specs.declared.sizes.TheConstants.{FRAME_HEAD_BYTES}
 use Rattle.mpeg_scan.specs.declared.units.Unit.{Unit as PictureUnit}
 use Rattle.rtp_pack.specs.declared.payloads.Packet.{Packet}
 use Rattle.rtp_pack.specs.Packetization.{AreCutPoints, first_portion}
-use Rattle.rtp_pack.specs.Packets.{ArePackets, AreInOrder, DoCover, IsLaid, frames_size, lengths_to}
-use Rattle.rtp_pack.specs.Packets.{next_place, portion_packets, unit_lengths, unit_packets}
-use Rattle.rtp_pack.specs.Packets.{unit_starts}
+use Rattle.rtp_pack.specs.Packets.{ArePackets, AreInOrder, DoCover, IsLaid, frames_size, lengths_to, next_place}
+use Rattle.rtp_pack.specs.Packets.{portion_packets, unit_lengths, unit_packets, unit_starts}
 use Rattle.rtp_pack.specs.Sizes.{IsPacked, measure_from_headers, bytes_of, cuts_size, frames_of, measure_of, with_slice}
 use Rattle.rtp_pack.specs.Sizes.{with_slices, Measure}
 use Rattle.rtp_pack.proofs.CutPointLemmas.{AreSome, ends, packets-cut}

@@ -1,6 +1,5 @@
 -- What follows from the rules for cutting, in a reader's words.
-use Rattle.std.specs.Prelude.{ℕ, ◌+◌, ◌<◌, ◌≤◌, ◌≡◌, ◌⊎◌, Bool, true, false, List, []}
-use Rattle.std.specs.Prelude.{◌∷◌}
+use Rattle.std.specs.Prelude.{ℕ, ◌+◌, ◌<◌, ◌≤◌, ◌≡◌, ◌⊎◌, Bool, true, false, List, [], ◌∷◌}
 use Rattle.rtp_pack.specs.declared.open_packet.TheConstants.{MAX_PAYLOAD_BYTES}
 use Rattle.rtp_pack.specs.declared.payloads.Packet.{Packet}
 use Rattle.rtp_pack.specs.Packetization.{AreCutPoints}
@@ -50,8 +49,7 @@ IsLastMarked (p ∷ (q ∷ packets)) = (p.marker ≡ false) × IsLastMarked (q �
 -- no packet of these has S
 abbrev pub HaveNoSequenceHeader : List Packet → Type 0
 HaveNoSequenceHeader [] = Unit {0}
-HaveNoSequenceHeader (p ∷ packets) =
-    (p.sequence_header ≡ false) × HaveNoSequenceHeader packets
+HaveNoSequenceHeader (p ∷ packets) = (p.sequence_header ≡ false) × HaveNoSequenceHeader packets
 
 -- S is on the first of these packets if its unit has a sequence header, and on no other
 abbrev pub OnlyFirstHasSequenceHeader : Bool → List Packet → Type 0

@@ -49,8 +49,7 @@ pub record FoundFrame (w : Watcher) (b : List ℕ) : Type 0 where
   pub next_is : source_with w.client.watching b ≡ Some source
 
 frame-good : {w : Watcher} {b : List ℕ} → FoundFrame w b → GoesOn w.history (Frame b)
-frame-good {w} {b} found =
-    good-is w.wish w.history w.client.watching b found.keeps.state ∙ ap is_some found.next_is
+frame-good {w} {b} found = good-is w.wish w.history w.client.watching b found.keeps.state ∙ ap is_some found.next_is
 
 -- there was no memory, before the payload was handed on or after it
 pub frame-starved : {w : Watcher} {b : List ℕ} {s : Observed} → FoundFrame w b

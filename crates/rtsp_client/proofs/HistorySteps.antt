@@ -1,8 +1,7 @@
 -- What a client keeps, one moment after another.
-use Rattle.std.proofs.Common.{◌≡◌, ℕ, ◌+◌, ◌-◌, ◌%◌, ◌<◌, ◌≤◌, ◌==◌, ◌&&◌, Bool, true, false, not, nat_lt, nat_le}
-use Rattle.std.proofs.Common.{cond, List, [], ◌∷◌, ◌++◌, length, drop, sum, get_or, Option, Some, None, Result, Ok}
-use Rattle.std.proofs.Common.{Err, is_some, is_ok, unwrap_or, if◌then◌else◌, refl, sym, ap, subst, ◌∙◌, arith, inl}
-use Rattle.std.proofs.Common.{inr}
+use Rattle.std.proofs.Common.{◌≡◌, ℕ, ◌+◌, ◌-◌, ◌%◌, ◌<◌, ◌≤◌, ◌==◌, ◌&&◌, Bool, true, false, not, nat_lt, nat_le, cond}
+use Rattle.std.proofs.Common.{List, [], ◌∷◌, ◌++◌, length, drop, sum, get_or, Option, Some, None, Result, Ok, Err}
+use Rattle.std.proofs.Common.{is_some, is_ok, unwrap_or, if◌then◌else◌, refl, sym, ap, subst, ◌∙◌, arith, inl, inr}
 use Rattle.std.proofs.lemmas.Bool.{and_parts, cases_lt, cond-true, cond-false, cond_both, eq-eqb, ne_eqb, lt-ltb}
 use Rattle.std.proofs.lemmas.Bool.{le-ltb, true≢false}
 use Rattle.std.proofs.lemmas.Option.{cond_some}
@@ -21,8 +20,7 @@ use Rattle.rtsp_client.specs.declared.watch_request.Watched.{Watched}
 use Rattle.rtsp_client.specs.Replies.{play_range, play_start}
 use Rattle.rtsp_client.specs.ClientHistory.{History, ClientEvent, Frame, Reply, Report, end_ms, first_frame, frames}
 use Rattle.rtsp_client.specs.ClientHistory.{latest_frame, is_inside, is_last, is_playing, last_slot, payloads}
-use Rattle.rtsp_client.specs.ClientHistory.{bytes_pending, bytes_received, replies, reports, sizes, slot_before}
-use Rattle.rtsp_client.specs.ClientHistory.{start}
+use Rattle.rtsp_client.specs.ClientHistory.{bytes_pending, bytes_received, replies, reports, sizes, slot_before, start}
 use Rattle.rtsp_client.specs.Films.{is_complete, is_first_good, is_good_frame, is_next_good, time_in, units}
 use Rattle.rtsp_client.specs.Films.{units_until}
 use Rattle.rtsp_client.specs.Meters.{watched_in}
@@ -147,8 +145,7 @@ source_from h first latest = record {
 }
 
 units-begun : (h : History) → 0 < frames h → units h ≡ units_until (end_ms h) (time_in (first_frame h))
-units-begun h some =
-    cond-false (frames h == 0) 0 _ (ne_eqb (frames h) 0 (λ none. absurd (omega (arith, some, none))))
+units-begun h some = cond-false (frames h == 0) 0 _ (ne_eqb (frames h) 0 (λ none. absurd (omega (arith, some, none))))
 
 source-is : (h : History) (source : RtpSource) → IsSource source h
     → source ≡ source_from h (first_frame h) (latest_frame h)

@@ -259,8 +259,7 @@ course-rest {at} {round} {rounds} {f} x =
 courses-once : (one other : List Round) {at : CoursePlace} {a b : Final} → IsCourse at one a → IsCourse at other b
     → BeginWith (events_of other ++ events_in b.doings) (events_of one ++ events_in a.doings)
     → AreSameCourses one other a b
-courses-once [] [] x y same =
-    record { rounds_are = refl; final_is = finals-once (closes-here x) (closes-here y) same }
+courses-once [] [] x y same = record { rounds_are = refl; final_is = finals-once (closes-here x) (closes-here y) same }
 courses-once [] (round ∷ other) x y (later, same) =
     absurd (closes-not-runs later (closes-here x) (first-done y) (sym (ap event_or_end same)))
 courses-once (round ∷ one) [] {b = b} x y (later, same) =

@@ -12,8 +12,7 @@ use Rattle.rtsp_client.specs.declared.watch_request.WatchFault.TheVariants.{BadF
 use Rattle.rtsp_client.specs.Replies.{IsAnswer, play_range, play_start, setup_session}
 use Rattle.rtsp_client.specs.Requests.{play_text, teardown_text}
 use Rattle.rtsp_client.specs.ClientHistory.{History, ClientEvent, Frame, Reply, Report, Slot}
-use Rattle.rtsp_client.specs.ClientHistory.{frames, replies}
-use Rattle.rtsp_client.specs.ClientHistory.{session}
+use Rattle.rtsp_client.specs.ClientHistory.{frames, replies, session}
 use Rattle.rtsp_client.specs.Films.{is_complete, is_good_frame}
 use Rattle.rtsp_client.specs.Meters.{watched_in}
 

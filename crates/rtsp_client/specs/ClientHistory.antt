@@ -1,8 +1,7 @@
 -- What a client receives after its first request, element by element and slot by slot. A history is
 -- a list of moments, the latest first.
-use Rattle.std.specs.Prelude.{ℕ, ◌+◌, ◌==◌, ◌&&◌, Bool, false}
-use Rattle.std.specs.Prelude.{not, max, nat_lt, if◌then◌else◌, List, [], ◌∷◌, ◌++◌, length}
-use Rattle.std.specs.Prelude.{drop, unwrap_or}
+use Rattle.std.specs.Prelude.{ℕ, ◌+◌, ◌==◌, ◌&&◌, Bool, false, not, max, nat_lt, if◌then◌else◌}
+use Rattle.std.specs.Prelude.{List, [], ◌∷◌, ◌++◌, length, drop, unwrap_or}
 use Rattle.rtp_pack.specs.Heads.{head_at}
 use Rattle.rtsp_client.specs.Replies.{play_range, play_start, setup_session}
 

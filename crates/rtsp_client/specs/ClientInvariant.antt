@@ -1,6 +1,5 @@
 -- What is always true of what a client keeps.
-use Rattle.std.specs.Prelude.{◌≡◌, ℕ, ◌^◌, ◌<◌, ◌≤◌, List, length, slice_index, Option, Some}
-use Rattle.std.specs.Prelude.{None}
+use Rattle.std.specs.Prelude.{◌≡◌, ℕ, ◌^◌, ◌<◌, ◌≤◌, List, length, slice_index, Option, Some, None}
 use Rattle.rtsp_client.specs.declared.frames.RtpSource.{RtpSource}
 use Rattle.rtsp_client.specs.declared.play_reply.Play.{Play}
 use Rattle.rtsp_client.specs.declared.watch_request.Watched.{Watched}

@@ -1,7 +1,6 @@
 -- The film that is watched, as its frames and the reply to PLAY describe it.
-use Rattle.std.specs.Prelude.{ℕ, ◌+◌, ◌*◌, ◌%◌, ◌^◌, ◌==◌, ◌&&◌, Bool}
-use Rattle.std.specs.Prelude.{not, nat_le, nat_lt, if◌then◌else◌, List, length}
-use Rattle.std.specs.Prelude.{drop, slice_index, is_ok}
+use Rattle.std.specs.Prelude.{ℕ, ◌+◌, ◌*◌, ◌%◌, ◌^◌, ◌==◌, ◌&&◌, Bool, not, nat_le, nat_lt}
+use Rattle.std.specs.Prelude.{if◌then◌else◌, List, length, drop, slice_index, is_ok}
 use Rattle.std.specs.Int.{div_ceil}
 use Rattle.mpeg_scan.specs.PictureRates.{picture_time}
 use Rattle.rtp_pack.specs.Heads.{head_at, head_of}

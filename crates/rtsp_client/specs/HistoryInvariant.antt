@@ -7,10 +7,9 @@ use Rattle.rtsp_client.specs.declared.frames.RtpSource.{RtpSource}
 use Rattle.rtsp_client.specs.declared.play_reply.Play.{Play}
 use Rattle.rtsp_client.specs.declared.watch_request.Wish.{Wish}
 use Rattle.rtsp_client.specs.ClientHistory.{History, end_ms, first_frame, frames, is_inside}
-use Rattle.rtsp_client.specs.ClientHistory.{is_last}
-use Rattle.rtsp_client.specs.ClientHistory.{is_playing, last_slot, latest_frame, bytes_pending}
-use Rattle.rtsp_client.specs.ClientHistory.{bytes_received}
-use Rattle.rtsp_client.specs.ClientHistory.{replies, session, sizes, slot_before, start}
+use Rattle.rtsp_client.specs.ClientHistory.{is_last, is_playing, last_slot, latest_frame}
+use Rattle.rtsp_client.specs.ClientHistory.{bytes_pending, bytes_received, replies, session, sizes}
+use Rattle.rtsp_client.specs.ClientHistory.{slot_before, start}
 use Rattle.rtsp_client.specs.Films.{time_in, units}
 use Rattle.rtsp_client.specs.Meters.{watched_in}
 use Rattle.rtsp_client.specs.ClientState.{replies_in, session_of}

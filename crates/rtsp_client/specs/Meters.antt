@@ -5,8 +5,7 @@ use Rattle.rtsp_client.specs.declared.watch_request.Wish.{Wish}
 use Rattle.rtsp_client.specs.declared.watch_request.Watched.{Watched}
 use Rattle.rtsp_client.specs.ClientHistory.{History, Frame, Reply, Report, Slot, first_frame}
 use Rattle.rtsp_client.specs.ClientHistory.{frames, is_playing, last_slot, payloads, bytes_received}
-use Rattle.rtsp_client.specs.ClientHistory.{reports}
-use Rattle.rtsp_client.specs.ClientHistory.{sizes, slot_before, start}
+use Rattle.rtsp_client.specs.ClientHistory.{reports, sizes, slot_before, start}
 use Rattle.rtsp_client.specs.Films.{is_complete, time_in}
 
 -- in which slot of the play a unit is used, where a picture takes so many 1/360,000 seconds

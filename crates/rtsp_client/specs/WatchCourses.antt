@@ -15,9 +15,8 @@ use Rattle.rtsp_client.specs.declared.watch_request.WatchFault.TheVariants.{Turn
 use Rattle.rtsp_client.specs.ClientHistory.{History, ClientEvent, Slot, sizes}
 use Rattle.rtsp_client.specs.Requests.{setup_text}
 use Rattle.rtsp_client.specs.Answers.{Gives, GoOn, GoesOn, cut_bytes, history_after}
-use Rattle.rtsp_client.specs.Answers.{events_of_elements}
-use Rattle.rtsp_client.specs.Answers.{element_events, payload_of, payloads_of, request_after}
-use Rattle.rtsp_client.specs.Answers.{requests_after}
+use Rattle.rtsp_client.specs.Answers.{events_of_elements, element_events, payload_of, payloads_of}
+use Rattle.rtsp_client.specs.Answers.{request_after, requests_after}
 
 -- where a watching stands: what was received, and the bytes that wait
 pub record WatchStage : Type 0 where

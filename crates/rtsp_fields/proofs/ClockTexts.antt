@@ -72,8 +72,7 @@ hours_size : (h : List ℕ) → length (h ++ 58 ∷ []) ≡ length h + 1
 hours_size h = length-append h (58 ∷ [])
 
 minutes_size : (h m : List ℕ) → length ((h ++ 58 ∷ []) ++ (m ++ 58 ∷ [])) ≡ length h + 1 + length m + 1
-minutes_size h m =
-    length-append (h ++ 58 ∷ []) (m ++ 58 ∷ []) ∙ omega (arith, hours_size h, length-append m (58 ∷ []))
+minutes_size h m = length-append (h ++ 58 ∷ []) (m ++ 58 ∷ []) ∙ omega (arith, hours_size h, length-append m (58 ∷ []))
 
 clock_size : (h m s : List ℕ) → length (clock_text h m s) ≡ length h + 1 + length m + 1 + length s
 clock_size h m s =

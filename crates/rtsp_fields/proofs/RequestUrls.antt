@@ -96,8 +96,7 @@ asked_is_read url asked other = go asked.form
   where
     go : ((url ≡ codes "*") ⊎ IsRtspUrl url) → (path : ℕ) × IsAbsoluteUrl url path
     go (inl star) = absurd (other star)
-    go (inr u) =
-        let cut = cut_of url u in (cut.0, record { bytes = asked.bytes; is_rtsp = u; end = cut.1.end })
+    go (inr u) = let cut = cut_of url u in (cut.0, record { bytes = asked.bytes; is_rtsp = u; end = cut.1.end })
 
 -- `*` is no RTSP URL
 pub read_is_asked : (url : List ℕ) (path : ℕ) → IsAbsoluteUrl url path → IsUrl url × (url ≢ codes "*")

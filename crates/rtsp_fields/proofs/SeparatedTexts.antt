@@ -76,8 +76,7 @@ part_whole c a none = record {
     after = omega arith;
     within = omega arith;
     none = none;
-    ends =
-        λ inside. absurd (omega (arith, inside));
+    ends = λ inside. absurd (omega (arith, inside));
   };
 }
 
@@ -110,11 +109,7 @@ later_start c a rest k from is =
     elim (cases_lt 0 (k - (length a + 1))) [
       | inl some ↦ (
           let at : length a + 1 + (k - (length a + 1) - 1) ≡ k - 1 = omega (arith, some) in
-          inr (
-            some,
-            sym (later_of c a rest (k - (length a + 1) - 1))
-                ∙ ap (λ n. get_or (text_of c a rest) n 0) at ∙ is,
-          )
+          inr (some, sym (later_of c a rest (k - (length a + 1) - 1)) ∙ ap (λ n. get_or (text_of c a rest) n 0) at ∙ is)
           )
       | inr none ↦ inl (omega (arith, none))
     ]

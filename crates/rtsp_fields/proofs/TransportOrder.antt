@@ -79,8 +79,7 @@ written_not_taken front part channels none plain other = λ is.
 pub multicast_not_taken : (front : List ℕ) (channels : Channels) → HasNoComma (front ++ codes ";multicast")
     → ¬ IsTransport (front ++ codes ";multicast") channels
 unfolding other_than
-multicast_not_taken front channels none =
-    written_not_taken front (codes "multicast") channels none refl (inl refl)
+multicast_not_taken front channels none = written_not_taken front (codes "multicast") channels none refl (inl refl)
 
 -- the sixth byte distinguishes the modes
 other_mode : (byte : ℕ) (rest : List ℕ) → byte ≢ 114 → part_word (codes "mode=record") ≢ codes "mode=" ++ byte ∷ rest

@@ -30,8 +30,7 @@ lower_blank b other = grind arith
 first_plain : (letters word : List ℕ) → in_lower_case letters ≡ word → is_blank (get_or word 0 0) ≡ false
     → is_blank (get_or letters 0 0) ≡ false
 first_plain [] word same other = refl
-first_plain (x ∷ letters) word same other =
-    lower_blank x (ap (λ (l : List ℕ). is_blank (get_or l 0 0)) same ∙ other)
+first_plain (x ∷ letters) word same other = lower_blank x (ap (λ (l : List ℕ). is_blank (get_or l 0 0)) same ∙ other)
 
 lower_reverse : (text : List ℕ) → in_lower_case (reverse text) ≡ reverse (in_lower_case text)
 lower_reverse [] = refl
@@ -98,8 +97,7 @@ spelled_free c word text is free s =
     (kind_other is_blank c s.front is.0 s.front_is_blank) inner)
 
 pub protocol_word : (text : List ℕ) → IsSpelling (codes "rtp/avp/tcp") text → part_word text ≡ codes "rtp/avp/tcp"
-protocol_word text s =
-    spelled (codes "rtp/avp/tcp") text (record { some = omega arith; first = refl; last = refl }) s
+protocol_word text s = spelled (codes "rtp/avp/tcp") text (record { some = omega arith; first = refl; last = refl }) s
 
 -- a part that asks for playback asks for nothing else, and names no channels
 mode_plain : (part : List ℕ) → (part_word part ≡ codes "mode=play") → AsksOtherDelivery part → ⊥

@@ -73,8 +73,7 @@ IsRowOf method row = values_in row ≡ values_of method
 
 -- the methods in the order in which the reply to OPTIONS lists them, and that list
 abbrev pub all_methods : List Method
-all_methods =
-    Options ∷ Describe ∷ Setup ∷ Play ∷ Pause ∷ Teardown ∷ GetParameter ∷ []
+all_methods = Options ∷ Describe ∷ Setup ∷ Play ∷ Pause ∷ Teardown ∷ GetParameter ∷ []
 
 abbrev pub separator_before : ℕ → List ℕ
 separator_before place = if place == 0 then [] else codes ", "

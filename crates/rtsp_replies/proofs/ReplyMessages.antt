@@ -202,8 +202,7 @@ refusing Required option repeats fits = record {
       (plain-more (record {
         name_is = refl;
         one_line = repeats.one_line;
-        bare =
-            repeats.bare;
+        bare = repeats.bare;
       }) repeats.short written-nil);
   given = refl;
 }

@@ -1,8 +1,7 @@
 -- Replies of fields that are read as they were written are whole messages.
-use Rattle.std.proofs.Common.{◌≡◌, ℕ, ◌+◌, ◌-◌, ◌*◌, ◌/◌, ◌%◌, ◌^◌, ◌<◌, ◌≤◌, Bool, true, false}
-use Rattle.std.proofs.Common.{List, [], ◌∷◌, ◌++◌, All, codes, decimal, flat_map, get_or, length}
-use Rattle.std.proofs.Common.{reverse}
-use Rattle.std.proofs.Common.{Option, Some, None, refl, sym, ap, ◌∙◌, arith, inl, inr}
+use Rattle.std.proofs.Common.{◌≡◌, ℕ, ◌+◌, ◌-◌, ◌*◌, ◌/◌, ◌%◌, ◌^◌, ◌<◌, ◌≤◌, Bool, true, false, List, [], ◌∷◌, ◌++◌}
+use Rattle.std.proofs.Common.{All, codes, decimal, flat_map, get_or, length, reverse, Option, Some, None, refl, sym, ap}
+use Rattle.std.proofs.Common.{◌∙◌, arith, inl, inr}
 use Rattle.std.specs.Prelude.{IfSome, ⊤}
 use Rattle.std.specs.List.{list_all}
 use Rattle.std.specs.Char.{is_ascii_digit}
@@ -18,8 +17,7 @@ use Rattle.interleave.specs.declared.message_heads.TheConstants.{MAX_HEAD_BYTES}
 use Rattle.vod_base.specs.Blanks.{is_blank, without_blanks, without_leading_blanks}
 use Rattle.vod_base.proofs.DigitLemmas.{decimal_numerals}
 use Rattle.rtsp_text.specs.Grammar.{is_token, is_url_byte}
-use Rattle.rtsp_text.specs.Replies.{Field, IsPlain, all_fields, field_line, is_code, phrase}
-use Rattle.rtsp_text.specs.Replies.{reply_front, reply_text}
+use Rattle.rtsp_text.specs.Replies.{Field, IsPlain, all_fields, field_line, is_code, phrase, reply_front, reply_text}
 use Rattle.rtsp_text.specs.Replies.{sequence_line, status_line, value_named}
 use Rattle.rtsp_text.specs.RequestTexts.{HasGivenLength}
 use Rattle.rtsp_text.proofs.LineBounds.{all-append}
@@ -101,13 +99,7 @@ pub printed-w64 : (n : ℕ) → IsPrinted 16 (encode_lower (to_be_bytes w64 n))
 printed-w64 n =
     printed-hex (to_be_bytes w64 n) (
       omega arith,
-      (
-        omega arith,
-        (
-          omega arith,
-          (omega arith, (omega arith, (omega arith, (omega arith, (omega arith, tt))))),
-        ),
-      ),
+      (omega arith, (omega arith, (omega arith, (omega arith, (omega arith, (omega arith, (omega arith, tt))))))),
     )
 
 -- a text that neither begins nor ends with a blank has none around it
@@ -253,10 +245,6 @@ whole_of parts are =
     (all_given parts.sequence parts.fields parts.body are.given) (front_short parts are) are.small in
     let first = first_byte parts.code parts.sequence parts.fields parts.body in
     record {
-      starts = (
-        omega (arith, size.is_head.some, size.is_head.within),
-        rw first refl,
-        rw first refl,
-      );
+      starts = (omega (arith, size.is_head.some, size.is_head.within), rw first refl, rw first refl);
       size = size;
     }

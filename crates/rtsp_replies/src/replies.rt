@@ -1,13 +1,12 @@
 //! The replies, each from its status line to its body (RFC 2326 section 7).
 
 ghost use Rattle.rtsp_replies.specs.Replies.{code_of, refusal_fields, refusal_text, public_text};
+ghost use Rattle.rtsp_replies.specs.Replies.{describe_text, setup_text, session_text, plain_text};
+ghost use Rattle.rtsp_replies.specs.Replies.{play_fields, play_text, overflow_text, full_text};
+ghost use Rattle.rtsp_replies.specs.Replies.{parameters_text, started_text};
 ghost use Rattle.rtsp_replies.specs.declared.text_buffers.TheConstants.{MAX_TEXT_BYTES};
-ghost use Rattle.rtsp_replies.specs.Replies.{describe_text, setup_text, session_text};
-ghost use Rattle.rtsp_replies.specs.Replies.{plain_text, play_fields, play_text, overflow_text};
-ghost use Rattle.rtsp_replies.specs.Replies.{full_text, parameters_text};
 ghost use Rattle.std.specs.Prelude.{◌≡◌, ◌≤◌, IsTrue, true, length, ℕ, List, Option};
 ghost use Rattle.std.specs.Prelude.{Some, [], decimal};
-ghost use Rattle.rtsp_replies.specs.Replies.{started_text};
 ghost use Rattle.std.specs.Int.{w32, to_be_bytes};
 ghost use Rattle.hex.specs.Hex.{encode_lower};
 ghost use Rattle.vod_base.specs.Names.{good_name};

@@ -149,8 +149,7 @@ line_joined f fs = sym (append_assoc (text_of f ++ codes "\r\n") (flat (map text
 
 line_shape : (a : List ℕ) (f : Field) (fs : List Field)
     → a ++ (text_of f ++ 13 ∷ 10 ∷ fields_text fs) ≡ a ++ fields_text (f ∷ fs)
-line_shape a f fs =
-    ap (λ l. a ++ l) (sym (append_assoc (text_of f) (codes "\r\n") (fields_text fs)) ∙ line_joined f fs)
+line_shape a f fs = ap (λ l. a ++ l) (sym (append_assoc (text_of f) (codes "\r\n") (fields_text fs)) ∙ line_joined f fs)
 
 line_spelled : (a : List ℕ) (f : Field) (fs : List Field)
     → line_bytes a f.name f.value (fields_text fs) ≡ a ++ fields_text (f ∷ fs)
@@ -161,12 +160,10 @@ line_spelled a f fs =
 
 line_moved : (a : List ℕ) (f : Field) (fs : List Field)
     → (a ++ (text_of f ++ codes "\r\n")) ++ fields_text fs ≡ a ++ fields_text (f ∷ fs)
-line_moved a f fs =
-    append_assoc a (text_of f ++ codes "\r\n") (fields_text fs) ∙ ap (λ l. a ++ l) (line_joined f fs)
+line_moved a f fs = append_assoc a (text_of f ++ codes "\r\n") (fields_text fs) ∙ ap (λ l. a ++ l) (line_joined f fs)
 
 line_size : (a : List ℕ) (f : Field) → length (a ++ (text_of f ++ codes "\r\n")) ≡ length a + length (text_of f) + 2
-line_size a f =
-    length-append a (text_of f ++ codes "\r\n") ∙ omega (arith, length-append (text_of f) (codes "\r\n"))
+line_size a f = length-append a (text_of f ++ codes "\r\n") ∙ omega (arith, length-append (text_of f) (codes "\r\n"))
 
 feed_last : (b next : List ℕ) → b ++ codes "\r\n" ≡ next → get_or next (length next - 1) 0 ≡ 10
 feed_last b next e =

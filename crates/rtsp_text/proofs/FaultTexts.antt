@@ -84,8 +84,7 @@ writes name texts number is =
     record {
       value = read.value;
       field = (first_tells name texts).first read.value read.value_is;
-      number_is =
-          read.number_is;
+      number_is = read.number_is;
     }
 
 -- a value that isn't all digits

@@ -156,14 +156,12 @@ before_empty-all (t ∷ ts) rest all =
 pub next_header : (bytes line rest : List ℕ) → IsNextLine bytes line rest → 0 < length line
     → lines_before_empty bytes ≡ line ∷ lines_before_empty rest
 unfolding lines_before_empty
-next_header bytes line rest h some =
-    ap before_empty h.lines_are ∙ before_empty-some line (lines rest) some
+next_header bytes line rest h some = ap before_empty h.lines_are ∙ before_empty-some line (lines rest) some
 
 pub next_empty : (bytes line rest : List ℕ) → IsNextLine bytes line rest → length line ≡ 0
     → lines_before_empty bytes ≡ []
 unfolding lines_before_empty
-next_empty bytes line rest h none =
-    ap before_empty h.lines_are ∙ before_empty-none line (lines rest) none
+next_empty bytes line rest h none = ap before_empty h.lines_are ∙ before_empty-none line (lines rest) none
 
 pub lines_before_empty-nil : (bytes : List ℕ) → bytes ≡ [] → lines_before_empty bytes ≡ []
 unfolding lines_before_empty

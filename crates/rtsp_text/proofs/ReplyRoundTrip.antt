@@ -45,8 +45,7 @@ field_cut : (field : Field) → IsPlain field → IsSplitAtFirst 58 (text_of fie
 field_cut field plain =
     record {
       parts = append_assoc field.name (codes ": ") field.value;
-      first =
-          token_without 58 refl field.name plain.name_is;
+      first = token_without 58 refl field.name plain.name_is;
     }
 
 pub values_named : (name : List ℕ) (fields : List Field) → All IsPlain fields

@@ -30,5 +30,4 @@ pub record IsEmpty (line : EndedLine) : Type 0 where
 
 -- a first line, the header lines, and the last one
 abbrev pub head_bytes : EndedLine → List EndedLine → EndedLine → List ℕ
-head_bytes first headers last =
-    line_bytes first ++ flat_map line_bytes headers ++ line_bytes last
+head_bytes first headers last = line_bytes first ++ flat_map line_bytes headers ++ line_bytes last

@@ -1,8 +1,7 @@
 //! What the definitions of requests and replies come to.
 
 ghost use Rattle.std.specs.Prelude.{◌≡◌, ◌<◌, ◌≤◌, ◌++◌, ℕ, IsTrue, true, Option, List, All, Ok};
-ghost use Rattle.std.specs.Prelude.{Err};
-ghost use Rattle.std.specs.Prelude.{codes, length, take};
+ghost use Rattle.std.specs.Prelude.{Err, codes, length, take};
 ghost use Rattle.interleave.specs.Heads.{IsHead};
 ghost use Rattle.interleave.specs.Elements.{IsFirst, IsMessageLength};
 ghost use Rattle.vod_base.specs.Numbers.{is_decimal};
@@ -13,9 +12,8 @@ ghost use Rattle.rtsp_text.specs.Requests.{IsRequest, IsFault};
 ghost use Rattle.rtsp_text.specs.RequestFaults.{HasLines, IsWrong, Writes};
 ghost use Rattle.rtsp_text.specs.declared.requests.RequestFault.{RequestFault};
 ghost use Rattle.rtsp_text.specs.RequestTexts.{AreFront, AreRequest, AreShort, GivesLongBody};
-ghost use Rattle.rtsp_text.specs.RequestTexts.{HasForm};
-ghost use Rattle.rtsp_text.specs.RequestTexts.{HasGivenLength, RequestPieces, request_head};
-ghost use Rattle.rtsp_text.specs.RequestTexts.{request_text};
+ghost use Rattle.rtsp_text.specs.RequestTexts.{HasForm, HasGivenLength, RequestPieces};
+ghost use Rattle.rtsp_text.specs.RequestTexts.{request_head, request_text};
 ghost use Rattle.rtsp_text.specs.TerminatedLines.{EndedLine, head_bytes, IsEmpty, IsEnded};
 ghost use Rattle.rtsp_text.specs.TerminatedLines.{IsHeader};
 

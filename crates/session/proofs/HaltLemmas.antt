@@ -34,8 +34,7 @@ halted_kept : {setup : Setup} {play : Played} (ground : SessionContext) (lost wa
     → IsNextIn ground.films ground.source ground.counts (Playing setup play) next
     → HaltedState (record ground { counts = counts_next ground.counts done next }) lost
     (if is_answered next then true else waits) (state_once_halted setup play next)
-halted_kept ground lost waits done Done kept left =
-    record { kept = (kept.0, tt); going = tt; stop = tt; closed = refl }
+halted_kept ground lost waits done Done kept left = record { kept = (kept.0, tt); going = tt; stop = tt; closed = refl }
 halted_kept ground lost waits done (Paused rest) kept left =
     record { kept = (kept.0, kept.1.pacing, left); going = tt; stop = refl; closed = refl }
 halted_kept ground lost waits done Torn kept left =

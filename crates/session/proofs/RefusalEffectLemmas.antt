@@ -27,8 +27,7 @@ answer_plays h hand free (EndsSession taken is) =
     plays_on h.old h.new (ap (λ (s : SessionState). s.state) is.1) (ap (λ (s : SessionState). s.heard) is.1)
 answer_plays h hand free (TakesLook taken look) =
     plays_on h.old h.new (ap (λ (s : SessionState). s.state) look.state) (ap (λ (s : SessionState). s.heard) look.state)
-answer_plays h hand free (SeeksOffer offer planned is asks) =
-    absurd (let no : ⊥ = cc (hand.playing, offer.ready) in no)
+answer_plays h hand free (SeeksOffer offer planned is asks) = absurd (let no : ⊥ = cc (hand.playing, offer.ready) in no)
 
 -- in Playing a request that asks for no halt leaves the play
 pub hears_plays : (heard : HeardMessage) (setup : Setup) (play : Played) → heard.old.state ≡ Playing setup play
@@ -46,5 +45,4 @@ answer_leaves h reply (EndsSession taken is) =
 answer_leaves h reply answer = absurd (let no : ⊥ = cc (asks_as answer, reply) in no)
 
 pub hears_leaves : (old new : SessionState) (message : List ℕ) → Hears old message Reply new → LeavesOr old new
-hears_leaves old new message hears =
-    answer_leaves (heard_by hears) refl (answer_to (heard_by hears))
+hears_leaves old new message hears = answer_leaves (heard_by hears) refl (answer_to (heard_by hears))

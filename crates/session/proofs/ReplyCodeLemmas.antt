@@ -118,8 +118,7 @@ own_plain h _ = ok_plain _ _ _
 -- what is shown of a reply's text
 of_text : {text : List ℕ} (h : HeardMessage) → h.ask ≡ Reply → h.new.text ≡ text → IsNoRefusal text
     → RefusesNone h.ask h.new
-of_text h reply is refuses =
-    subst (λ a. RefusesNone a h.new) (sym reply) (subst IsNoRefusal (sym is) refuses)
+of_text h reply is refuses = subst (λ a. RefusesNone a h.new) (sym reply) (subst IsNoRefusal (sym is) refuses)
 
 halt_text : (h : HeardMessage) (sequence keep : ℕ) → h.ask ≡ AskHalt keep
     → h.new.text ≡ session_text sequence h.old.id → RefusesNone h.ask h.new
@@ -193,8 +192,7 @@ answer_500 h reply code answer = absurd (let no : ⊥ = cc (asks_as answer, repl
 
 hears_wanting : (old new : SessionState) (message : List ℕ) (ask : Ask) → Hears old message ask new → Is500 ask new
     → MayRunOutOfMemory old message × IsOutOfMemory old message ask new
-hears_wanting old new message Reply hears code =
-    answer_500 (heard_by hears) refl code (answer_to (heard_by hears))
+hears_wanting old new message Reply hears code = answer_500 (heard_by hears) refl code (answer_to (heard_by hears))
 hears_wanting old new message _ hears code = absurd code
 
 pub hears_500 : (old new : SessionState) (message : List ℕ) (ask : Ask) → Hears old message ask new → Is500 ask new

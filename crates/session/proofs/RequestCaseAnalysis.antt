@@ -179,14 +179,12 @@ plays h asked taken _ same is = Replies (ToConfirmed asked taken) is
 
 pauses : (h : HeardMessage) (taken : TakenTask h ToPause) (state : State) → h.old.state ≡ state
     → Pauses state h.old taken.request.sequence h.ask h.new → Answer h
-pauses h taken (Playing setup play) same is =
-    HaltsPlay taken (record { setup = setup; play = play; playing = same }) is
+pauses h taken (Playing setup play) same is = HaltsPlay taken (record { setup = setup; play = play; playing = same }) is
 pauses h taken _ same is = absurd is
 
 tears : (h : HeardMessage) (taken : TakenTask h ToTeardown) (state : State) → h.old.state ≡ state
     → TearsDown state h.old taken.request.sequence h.ask h.new → Answer h
-tears h taken (Playing setup play) same is =
-    StopsPlay taken (record { setup = setup; play = play; playing = same }) is
+tears h taken (Playing setup play) same is = StopsPlay taken (record { setup = setup; play = play; playing = same }) is
 tears h taken _ same is = EndsSession taken is
 
 seeks_offer : (h : HeardMessage) (offer : ReadyOffer h) (planned : Result Planned Refusal)
@@ -210,8 +208,7 @@ gets_offer h taken body (Ready setup paused) same (inr offers) =
     seeks_offer h
     (record { taken = taken; body = body; film = film; wait = offers.wait; has_wait = offers.has_wait })
     offers.offers.planned offers.offers.is_planned offers.offers.asks
-gets_offer h taken body _ same is =
-    Replies (ToDeclined taken.request NotNow taken.is_request (NotInPlaying refl)) is
+gets_offer h taken body _ same is = Replies (ToDeclined taken.request NotNow taken.is_request (NotInPlaying refl)) is
 
 looks : (h : HeardMessage) (taken : TakenTask h ToGetParameter) → IsWord (codes "x-Booked") taken.request.body.now
     → Looks h.old taken.request.sequence h.ask h.new → Answer h
@@ -232,8 +229,7 @@ gets : (h : HeardMessage) (taken : TakenTask h ToGetParameter) (topic : Topic) �
 gets h taken NoTopic about is = Replies (ToEmpty taken) is
 gets h taken Booked about is = looks h taken about is
 gets h taken OfferTopic about is = gets_offer h taken about h.old.state refl is
-gets h taken Unknown about is =
-    Replies (ToDeclined taken.request Parameter taken.is_request (NoParameter refl)) is
+gets h taken Unknown about is = Replies (ToDeclined taken.request Parameter taken.is_request (NoParameter refl)) is
 
 does : (h : HeardMessage) (task : Task) (taken : TakenTask h task) → Takes h.old taken.request (Ok task) h.ask h.new
     → Answer h

@@ -104,13 +104,11 @@ answer_changes h (SeeksOffer offer planned is asks) =
 
 pub hears_ground : (old new : SessionState) (message : List ℕ) (ask : Ask) → Hears old message ask new
     → IsSameContext old new
-hears_ground old new message ask hears =
-    (answer_changes (heard_by hears) (answer_to (heard_by hears))).0
+hears_ground old new message ask hears = (answer_changes (heard_by hears) (answer_to (heard_by hears))).0
 
 pub hears_state : (old new : SessionState) (message : List ℕ) (ask : Ask) → Hears old message ask new
     → ChangesState ask old new
-hears_state old new message ask hears =
-    (answer_changes (heard_by hears) (answer_to (heard_by hears))).1
+hears_state old new message ask hears = (answer_changes (heard_by hears) (answer_to (heard_by hears))).1
 
 -- a PAUSE or a TEARDOWN waits for no halt but the one that it asks for
 answer_unstopped : (h : HeardMessage) → AsksNoHalt h.ask → AwaitsNoStop h.old → Answer h → AwaitsNoStop h.new
@@ -161,8 +159,7 @@ good_does : (h : HeardMessage) (task : Task) (taken : TakenTask h task) → Good
 good_does h (ToPlay asked) taken play takes =
     let is = subst (λ (s : State). Plays s h.old taken.request asked.authority.now h.ask h.new) play.ready takes in
     good_starts h (record { asked = asked; taken = taken; film = play.film }) play.good is.planned is.is_planned is.asks
-good_does h _ taken play takes =
-    absurd (let no : ⊥ = cc (taken.judged.talk.spoken.named, play.good.method) in no)
+good_does h _ taken play takes = absurd (let no : ⊥ = cc (taken.judged.talk.spoken.named, play.good.method) in no)
 
 pub hears_good : (old new : SessionState) (message : List ℕ) (ask : Ask) → Hears old message ask new
     → CanBePlayed old message

@@ -21,8 +21,7 @@ taken {id} {stage} {method = Describe} asked talk film timely = record { talk = 
 taken {id} {stage} {method = Setup} asked talk film timely =
     record { talk = talk; film = (asked.authority.now, film); state = timely }
 taken {id} {stage} {method = Play} asked talk film timely = record { talk = talk; film = film; state = timely }
-taken asked talk film timely =
-    record { talk = talk; film = (asked.authority.now, (asked.film, film)); state = timely }
+taken asked talk film timely = record { talk = talk; film = (asked.authority.now, (asked.film, film)); state = timely }
 
 -- what is known of it then
 pub task_known : {films : ℕ} (stage : StateKind) (method : Method) (asked : Asked) → IsAsked films asked

@@ -191,8 +191,7 @@ abbrev pub Plays : State → SessionState → Request → List ℕ → Ask → S
 Plays Init old request authority ask new = ⊥
 Plays (Ready setup paused) old request authority ask new =
     PlaysReady old request authority setup paused ask new
-Plays _ old request authority ask new =
-    IsReplied old (session_text request.sequence old.id) ask new
+Plays _ old request authority ask new = IsReplied old (session_text request.sequence old.id) ask new
 
 -- PAUSE: what is kept of the play, and what that leaves of its run
 pub record PausesPlay (old : SessionState) (sequence : ℕ) (setup : Setup) (play : Played) (ask :
@@ -258,8 +257,7 @@ abbrev pub GetsOffer : State → SessionState → Request → Ask → SessionSta
 GetsOffer Init old request ask new = IsRefused old (Some request.sequence) NoSession [] ask new
 GetsOffer (Ready setup paused) old request ask new = LacksWait old request ask new
     ⊎ OffersIn old request setup paused ask new
-GetsOffer _ old request ask new =
-    IsRefused old (Some request.sequence) NotNow [] ask new
+GetsOffer _ old request ask new = IsRefused old (Some request.sequence) NotNow [] ask new
 
 -- GET_PARAMETER by its body
 abbrev pub Gets : SessionState → Request → Topic → Ask → SessionState → Type 0

@@ -82,8 +82,7 @@ module _ (w : TwoHearings) where
 
   replied_once : (text text' : List ℕ) → text' ≡ text → IsReplied old text ask one
       → IsReplied old text' again other → Agree w
-  replied_once text text' alike is its =
-      same (its.0 ∙ sym is.0) (its.1 ∙ ap (λ t. with_reply old t) alike ∙ sym is.1)
+  replied_once text text' alike is its = same (its.0 ∙ sym is.0) (its.1 ∙ ap (λ t. with_reply old t) alike ∙ sym is.1)
 
   describes_once : (sequence film : ℕ) (authority : List ℕ) → Describes old sequence film authority ask one
       → Describes old sequence film authority again other → Agree w
@@ -228,8 +227,7 @@ module _ (r : TwoRequests) where
           | inr second ↦ second_wants (subst (λ p. AsksPlayOr old call p again other) second asks)
         ]
       ]
-  plays_once _ authority is its =
-      replied_once w _ _ (ap (λ s. session_text s old.id) alike.parts.sequence_is) is its
+  plays_once _ authority is its = replied_once w _ _ (ap (λ s. session_text s old.id) alike.parts.sequence_is) is its
 
   refused_alike : (refusal : Refusal) → IsRefused old (Some request.sequence) refusal [] ask one
       → IsRefused old (Some reread.sequence) refusal [] again other → Agree w
@@ -254,8 +252,7 @@ module _ (r : TwoRequests) where
 
   gets_once : (topic : Topic) → Gets old request topic ask one → Gets old reread topic again other → Agree w
   gets_once NoTopic is its = replied_once w _ _ (ap plain_text alike.parts.sequence_is) is its
-  gets_once Booked is its =
-      looks_once is (subst (λ s. Looks old s again other) alike.parts.sequence_is its)
+  gets_once Booked is its = looks_once is (subst (λ s. Looks old s again other) alike.parts.sequence_is its)
   gets_once OfferTopic is its = gets_offer_once old.state is its
   gets_once Unknown is its = refused_alike Parameter is its
 
@@ -325,8 +322,7 @@ both_once w (inl is) (inl its) =
     (ap (λ f. refusal_text (first_sequence w.message) (fault_refusal f) [])
     (fault_once w.message its.fault is.fault its.is_fault is.is_fault)) is.refused its.refused
 both_once w (inl is) (inr its) = absurd (no_fault is.fault its.is_request is.is_fault)
-both_once w (inr is) its =
-    takes_once w is.request is.hears.judgement is.is_request is.hears.judged is.hears.takes
+both_once w (inr is) its = takes_once w is.request is.hears.judgement is.is_request is.hears.judged is.hears.takes
 
 -- a message has one answer, state, reply and command, or memory is wanting for it
 pub hears_once : {again : Ask} {other : SessionState} (h : HeardMessage) → AreFilms h.old.films

@@ -133,10 +133,7 @@ teardown_answered c may =
       };
       film = inr (
         may.authority,
-        (
-          may.setup.film,
-          record { named = subst N (sym r.url_is) may.names; own = its_film old.state may.setup_is },
-        ),
+        (may.setup.film, record { named = subst N (sym r.url_is) may.names; own = its_film old.state may.setup_is }),
       );
       state = tt;
     }) in

@@ -63,8 +63,7 @@ slot_room false sending old slot = refl
 
 happening_room : (old : SessionState) (happening : SessionEvent) (new : SessionState) → IsAfter old happening new
     → Keeps (looks_of happening) old new
-happening_room old (Message message ask) new is =
-    answer_room (heard_by is) (answer_to (heard_by is))
+happening_room old (Message message ask) new is = answer_room (heard_by is) (answer_to (heard_by is))
 happening_room old (Slot slot) new is =
     same_room old new (ap (λ (s : SessionState). s.looks_left) is ∙ slot_room (is_taken old slot)
     (is_sending old.state) old slot)

@@ -283,13 +283,7 @@ play_taken h request setup is set timely =
         spoken = spoken_of PlayMethod is.plain;
         session = own_session (has_session_in h.old.state) ⊥ (exists_in h.old.state setup set) is.session;
       };
-      film = inr (
-        is.authority,
-        (
-          setup.film,
-          record { named = is.named; own = its_film h.old.state set },
-        ),
-      );
+      film = inr (is.authority, (setup.film, record { named = is.named; own = its_film h.old.state set }));
       state = timely;
     })
 
@@ -483,8 +477,7 @@ may_name : {head : List ℕ} (old : SessionState) → MayNameSession old head
     → IsOwnSession (has_session_in old.state) old.id (header_value head (codes "Session")) ⊤
 may_name old (inl none) =
     subst (λ (v : Option (List ℕ)). IsOwnSession (has_session_in old.state) old.id v ⊤) (sym none) tt
-may_name old (inr names) =
-    own_session (has_session_in old.state) ⊤ (exists_in old.state names.0 names.1.0) names.1.1
+may_name old (inr names) = own_session (has_session_in old.state) ⊤ (exists_in old.state names.0 names.1.0) names.1.1
 
 -- a GET_PARAMETER is processed by its topic
 record TopicTaken (h : HeardMessage) (request : Request) (topic : Topic) : Type 0 where
@@ -499,13 +492,7 @@ topic_taken h request topic is about =
       talk = record { spoken = spoken_of GetParameter is.plain; session = may_name h.old is.session };
       film = inr (
         is.film.authority,
-        (
-          is.film.film,
-          record {
-            named = is.film.named;
-            own = own_film h.old.state is.film.film is.film.own;
-          },
-        ),
+        (is.film.film, record { named = is.film.named; own = own_film h.old.state is.film.film is.film.own }),
       );
       state = tt;
     }) in
@@ -650,8 +637,7 @@ record FilmMethod (method : List ℕ) : Type 0 where
   name_is : method ≡ name_of m
 
 film_method : (method : List ℕ) → IsFilmMethod method → FilmMethod method
-film_method method (inl is) =
-    record { m = SetupMethod; asks = λ same. cc; own = λ s film fits. fits; name_is = is }
+film_method method (inl is) = record { m = SetupMethod; asks = λ same. cc; own = λ s film fits. fits; name_is = is }
 film_method method (inr (inl is)) =
     record { m = PlayMethod; asks = λ same. cc; own = λ s film fits. fits; name_is = is }
 film_method method (inr (inr (inl is))) =

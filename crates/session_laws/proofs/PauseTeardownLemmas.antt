@@ -198,8 +198,7 @@ slot_calm false sending old slot calm = calm
 happening_calm : (old : SessionState) (happening : SessionEvent) (new : SessionState) → IsAfter old happening new →
     IsCalm old
     → IsTeardownHeard happening ⊎ IsCalm new
-happening_calm old (Message message ask) new is calm =
-    answer_calm (heard_by is) calm (answer_to (heard_by is))
+happening_calm old (Message message ask) new is calm = answer_calm (heard_by is) calm (answer_to (heard_by is))
 happening_calm old (Halt place) new is calm = inr (subst IsCalm (sym is) (halt_calm old place calm))
 happening_calm old (Slot slot) new is calm =
     inr (subst IsCalm (sym is) (slot_calm (is_taken old slot) (is_sending old.state) old slot calm))

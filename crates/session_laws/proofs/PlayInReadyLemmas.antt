@@ -35,8 +35,7 @@ unchanged {h} {prepared} waits is =
     let no : Nothing ≡ Play prepared = otherwise {h = h} waits (is ∙ waits.rest) in let clash : ⊥ = cc in clash
 
 started_by : (h : HeardMessage) {prepared : Prepared} → AwaitsPlay h prepared → Answer h → PlayStarted h
-started_by h waits (Replies reply is) =
-    absurd (unchanged {h = h} waits (ap (λ (s : SessionState). s.awaited) is.1))
+started_by h waits (Replies reply is) = absurd (unchanged {h = h} waits (ap (λ (s : SessionState). s.awaited) is.1))
 started_by h waits (SetsUp film taken setup asks is) =
     absurd (unchanged {h = h} waits (ap (λ (s : SessionState). s.awaited) is.1))
 started_by h waits (StartsPlay play planned asks planned_is) =
@@ -45,8 +44,7 @@ started_by h waits (HaltsPlay taken hand is) =
     absurd (let no : ⊥ = cc (otherwise {h = h} waits (ap (λ (s : SessionState). s.awaited) is.asks.state)) in no)
 started_by h waits (StopsPlay taken hand is) =
     absurd (let no : ⊥ = cc (otherwise {h = h} waits (ap (λ (s : SessionState). s.awaited) is.state)) in no)
-started_by h waits (EndsSession taken is) =
-    absurd (unchanged {h = h} waits (ap (λ (s : SessionState). s.awaited) is.1))
+started_by h waits (EndsSession taken is) = absurd (unchanged {h = h} waits (ap (λ (s : SessionState). s.awaited) is.1))
 started_by h waits (TakesLook taken look) =
     absurd (let no : ⊥ = cc (otherwise {h = h} waits (ap (λ (s : SessionState). s.awaited) look.state)) in no)
 started_by h waits (SeeksOffer offer planned is asks) =

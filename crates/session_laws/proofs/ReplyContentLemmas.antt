@@ -333,12 +333,7 @@ overflow_told old place slot booked asked = record {
 pub full_told : (old : SessionState) (entries live : ℕ)
     → IsFullReply (sequence_of old.awaited) entries live (after_full old entries live).text
 unfolding value_named
-full_told old entries live = record {
-  fields = _;
-  text_is = refl;
-  entries_are = refl;
-  open_is = refl;
-}
+full_told old entries live = record { fields = _; text_is = refl; entries_are = refl; open_is = refl }
 
 look_lines : (n a b : List ℕ)
     → joined_parts (codes "x-Now: " ∷ n ∷ codes "\r\nx-Slot: " ∷ a ∷ codes "\r\nx-Booked: " ∷ b ∷ codes "\r\n" ∷ [])

@@ -15,8 +15,7 @@ use Rattle.session.specs.declared.refusals.Task.{Task}
 use Rattle.session.specs.declared.refusals.Task.TheVariants.{Options as ToOptions, Describe as ToDescribe}
 use Rattle.session.specs.declared.refusals.Task.TheVariants.{Setup as ToSetup, Play as ToPlay}
 use Rattle.session.specs.Methods.{Describes, GetsParameter, HearsRequest, IsRefused, IsReplied, Pauses, Plays, SetsUp}
-use Rattle.session.specs.Methods.{Takes}
-use Rattle.session.specs.Methods.{TearsDown}
+use Rattle.session.specs.Methods.{Takes, TearsDown}
 use Rattle.session.specs.RefusalOrder.{IsJudged, IsOnFilm, IsReadAs, IsTaskOf, IsTimely, method_of, FitsSession}
 use Rattle.session.specs.RefusalOrder.{FitsState, HasFilm, IsOwnTalk, IsSpoken, IsTaken}
 use Rattle.session.proofs.InitialStateLemmas.{HeardMessage, TakenRequest}

@@ -30,11 +30,10 @@ use Rattle.session.specs.Methods.{AsksHalt, prepared_of}
 use Rattle.pacer.specs.PacerStates.{next_boundary}
 use Rattle.session.specs.RequestSteps.{Hears, is_answered}
 use Rattle.session.specs.SessionStates.{SessionState}
-use Rattle.session.proofs.InitialStateLemmas.{HeardMessage, heard_by}
+use Rattle.session.proofs.InitialStateLemmas.{HeardMessage, heard_by, PlayInHand}
 use Rattle.session.proofs.RequestCaseAnalysis.{Answer, Replies as RepliesAlone, SetsUp as SettlesSetup, StartsPlay}
 use Rattle.session.proofs.RequestCaseAnalysis.{HaltsPlay, StopsPlay, EndsSession, TakesLook, SeeksOffer, answer_to}
 use Rattle.session.proofs.RequestCaseAnalysis.{settled_init}
-use Rattle.session.proofs.InitialStateLemmas.{PlayInHand}
 use Rattle.rtsp_replies.specs.Replies.{session_text}
 use Rattle.session.proofs.ResumedPlayLemmas.{of_film}
 use Rattle.session_laws.proofs.RtpNumberLemmas.{identity_goes_on}
@@ -172,8 +171,7 @@ runs_by h (SeeksOffer offer planned is asks) =
     AsksOffer planned.plan asks.offers offer.taken.request.sequence asks.command asks.state
 
 pub runs_as : {old new : SessionState} {message : List ℕ} {ask : Ask} → Hears old message ask new → RunsAs old ask new
-runs_as hears =
-    runs_by (heard_by hears) (answer_to (heard_by hears))
+runs_as hears = runs_by (heard_by hears) (answer_to (heard_by hears))
 
 -- ---- numbers and films
 

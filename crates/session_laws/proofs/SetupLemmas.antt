@@ -98,8 +98,7 @@ is_setup SetupMethod = true
 is_setup _ = false
 
 not_setup : (m : Method) → is_setup m ≡ false → name_of m ≡ codes "SETUP" → ⊥
-not_setup m other is =
-    true≢false (sym (ap is_setup (method_once (name_of m) m SetupMethod refl is)) ∙ other)
+not_setup m other is = true≢false (sym (ap is_setup (method_once (name_of m) m SetupMethod refl is)) ∙ other)
 
 setup_by : (c : HeardCall (codes "SETUP")) → Answer c.h → SetupDone c
 setup_by c (Replies reply is) = Refuses _ is

@@ -20,10 +20,7 @@ use Rattle.session.proofs.RequestCaseAnalysis.{TakesLook, SeeksOffer, answer_to,
 answer_moves : (h : HeardMessage) → Answer h → StaysOr InitStage ReadyStage h.old h.new
 answer_moves h (Replies reply is) = inl (ap (λ (s : SessionState). stage_of s.state) is.1)
 answer_moves h (SetsUp film taken setup asks is) =
-    inr (record {
-      begins = ap stage_of (settled_init taken);
-      ends = ap (λ (s : SessionState). stage_of s.state) is.1;
-    })
+    inr (record { begins = ap stage_of (settled_init taken); ends = ap (λ (s : SessionState). stage_of s.state) is.1 })
 answer_moves h (StartsPlay play planned asks planned_is) = inl (ap (λ (s : SessionState). stage_of s.state) asks.state)
 answer_moves h (HaltsPlay taken hand is) =
     inl (ap (λ (s : SessionState). stage_of s.state) is.asks.state ∙ sym (ap stage_of hand.playing))
@@ -36,8 +33,7 @@ answer_moves h (SeeksOffer offer planned is asks) = inl (ap (λ (s : SessionStat
 -- a request moves Init to Ready, or leaves the state
 pub hears_moves : (old new : SessionState) (message : List ℕ) (ask : Ask) → Hears old message ask new
     → StaysOr InitStage ReadyStage old new
-hears_moves old new message ask hears =
-    answer_moves (heard_by hears) (answer_to (heard_by hears))
+hears_moves old new message ask hears = answer_moves (heard_by hears) (answer_to (heard_by hears))
 
 admitted_moves : (state : State) (awaited : Awaited) (place start : ℕ)
     → (stage_of (admitted_in state awaited place start) ≡ stage_of state)

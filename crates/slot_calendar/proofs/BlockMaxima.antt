@@ -1,7 +1,6 @@
 -- The greatest total of each block, kept while places change.
 use Rattle.std.proofs.Common.{◌≡◌, ◌≢◌, ◌<◌, ◌≤◌, ◌+◌, ◌-◌, ◌*◌, ◌/◌, ◌%◌, ℕ, max, List, Option, Some, None, length}
-use Rattle.std.proofs.Common.{get_or, take, drop, set, arith, sym, ap}
-use Rattle.std.proofs.Common.{◌∙◌, inl, inr}
+use Rattle.std.proofs.Common.{get_or, take, drop, set, arith, sym, ap, ◌∙◌, inl, inr}
 use Rattle.std.proofs.lemmas.Nat.{div-mul-add, div-add-mod'}
 use Rattle.std.proofs.lemmas.Bool.{cases_lt, cases_eq}
 use Rattle.std.proofs.lemmas.List.{length-set, length-drop, length-take-le, get_or-set_same, get_or-set_other}
@@ -160,12 +159,7 @@ pub record Settle (places tops : List ℕ) (stale : Option ℕ) (b top : ℕ) : 
 settle_length : {places tops : List ℕ} {stale : Option ℕ} {b top : ℕ} (settle : Settle places tops stale b top)
     → length (take 1024 (drop (b * 1024) places)) ≡ 1024
 settle_length {places} {tops} {stale} {b} {top} settle = length-take-le 1024 (drop (b * 1024) places)
-    (omega (
-      arith,
-      length-drop (b * 1024) places,
-      settle.maxima.places_are,
-      settle.maxima.stale_in b settle.is,
-    ))
+    (omega (arith, length-drop (b * 1024) places, settle.maxima.places_are, settle.maxima.stale_in b settle.is))
 
 settle_here : {places tops : List ℕ} {stale : Option ℕ} {b top : ℕ} (settle : Settle places tops stale b top)
     → get_or (set tops b top) b 0 ≡ top

@@ -4,8 +4,7 @@ use Rattle.std.proofs.lemmas.Bool.{cases_lt}
 use Rattle.slot_calendar.specs.declared.calendar.Overflow.{Overflow}
 use Rattle.slot_calendar.specs.Profiles.{capacity_at}
 use Rattle.slot_calendar.specs.Plays.{Play, released_at}
-use Rattle.slot_calendar.specs.Calendars.{CalendarState, booked_at, FitsIn, IsOverflowIn}
-use Rattle.slot_calendar.specs.Calendars.{IsFirstOverflow}
+use Rattle.slot_calendar.specs.Calendars.{CalendarState, booked_at, FitsIn, IsOverflowIn, IsFirstOverflow}
 use Rattle.slot_calendar.specs.Totals.{ring_slots}
 use Rattle.slot_calendar.proofs.PlanSlots.{SegmentFrom, asked-in, cut-before}
 

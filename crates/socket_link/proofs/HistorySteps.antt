@@ -1,6 +1,5 @@
 -- How the history of a link goes on following the calls of its socket, step by step.
-use Rattle.std.proofs.Common.{◌≡◌, ℕ, false, List, [], ◌∷◌, ◌++◌, refl, sym, ap, ◌∙◌, append_assoc}
-use Rattle.std.proofs.Common.{IsTrue}
+use Rattle.std.proofs.Common.{◌≡◌, ℕ, false, List, [], ◌∷◌, ◌++◌, refl, sym, ap, ◌∙◌, append_assoc, IsTrue}
 use Rattle.std.proofs.lemmas.List.{append-nil}
 use Rattle.vod_base.specs.Links.{IoEvent, sends}
 use Rattle.vod_base.specs.MemoryLinks.{sent_of}
@@ -15,8 +14,8 @@ use Rattle.socket_link.specs.Slots.{slots_due, slots_after, is_for_slots}
 use Rattle.socket_link.specs.Limits.{no_watch, watch_of}
 use Rattle.socket_link.specs.Histories.{heard_of, slots_heard, Follows}
 use Rattle.socket_link.proofs.Appends.{taken_of-append, arrivals_of-append, slots_due-append, watch_of-append}
-use Rattle.vod_base.proofs.LinkLogLemmas.{sent_of-append, sent_of-sends}
 use Rattle.socket_link.proofs.Appends.{heard_of-append, heard_of-sends, slots_heard-append, slots_heard-sends}
+use Rattle.vod_base.proofs.LinkLogLemmas.{sent_of-append, sent_of-sends}
 
 -- what `Follows` speaks of
 pub record LinkState : Type 0 where

@@ -6,8 +6,7 @@ use Rattle.std.proofs.lemmas.List.Elements.{All-head, All-tail}
 use Rattle.socket_link.specs.declared.sockets.Purpose.{Purpose}
 use Rattle.socket_link.specs.declared.sockets.Purpose.TheVariants.{Accept, Slot, Idle, Patience, End}
 use Rattle.socket_link.specs.declared.limits.Watch.{Watch}
-use Rattle.socket_link.specs.Calls.{SocketCall, GaveBytes, TookBytes}
-use Rattle.socket_link.specs.Calls.{ReadClock}
+use Rattle.socket_link.specs.Calls.{SocketCall, GaveBytes, TookBytes, ReadClock}
 use Rattle.socket_link.specs.Limits.{clocked, has_passed, is_overdue, no_watch, watched, watch_of}
 use Rattle.socket_link.specs.QuietCalls.{IsBeforePatience, IsQuiet, TakesNothing}
 use Rattle.socket_link.proofs.Appends.{watch_of-append}

@@ -1,11 +1,9 @@
 -- Slots are reported once each, in order.
-use Rattle.std.proofs.Common.{◌≡◌, ℕ, ◌<◌, List, [], ◌∷◌, ◌++◌, All, nat_lt, refl, sym}
-use Rattle.std.proofs.Common.{◌∙◌, inl, inr, subst, arith}
+use Rattle.std.proofs.Common.{◌≡◌, ℕ, ◌<◌, List, [], ◌∷◌, ◌++◌, All, nat_lt, refl, sym, ◌∙◌, inl, inr, subst, arith}
 use Rattle.std.proofs.lemmas.Bool.{cases_Bool, cond-true, cond-false, lt-ltb, ltb-true}
 use Rattle.std.proofs.lemmas.List.Elements.{All-nil, All-cons, All-head, All-weaker}
 use Rattle.socket_link.specs.declared.sockets.Purpose.TheVariants.{Slot}
-use Rattle.socket_link.specs.Calls.{SocketCall}
-use Rattle.socket_link.specs.Calls.{ReadClock}
+use Rattle.socket_link.specs.Calls.{SocketCall, ReadClock}
 use Rattle.socket_link.specs.Slots.{AreFalling, slot_of, slots_after, slots_due, with_slot}
 use Rattle.socket_link.proofs.Appends.{slots_due-append}
 

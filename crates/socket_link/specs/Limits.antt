@@ -7,8 +7,7 @@ use Rattle.socket_link.specs.declared.sockets.Purpose.TheVariants.{End}
 use Rattle.socket_link.specs.declared.limits.TheConstants.{STUCK_LIMIT, FIRST_SEND_LIMIT}
 use Rattle.socket_link.specs.declared.limits.TheConstants.{IDLE_LIMIT}
 use Rattle.socket_link.specs.declared.limits.Watch.{Watch}
-use Rattle.socket_link.specs.Calls.{SocketCall, GaveBytes, TookBytes}
-use Rattle.socket_link.specs.Calls.{ReadClock}
+use Rattle.socket_link.specs.Calls.{SocketCall, GaveBytes, TookBytes, ReadClock}
 
 -- before the first reading
 abbrev pub no_watch : Watch

@@ -4,8 +4,7 @@ use Rattle.socket_link.specs.declared.memory_sockets.NotedCall.TheVariants.{Gave
 use Rattle.socket_link.specs.declared.memory_sockets.NotedCall.TheVariants.{Took, Full, Stopped}
 use Rattle.socket_link.specs.declared.memory_sockets.NotedCall.TheVariants.{Clock, Wait, Shut}
 use Rattle.socket_link.specs.Calls.{SocketCall, GaveBytes, GaveNothing, GaveEnd, TookBytes}
-use Rattle.socket_link.specs.Calls.{TookNothing}
-use Rattle.socket_link.specs.Calls.{WasInterrupted, ReadClock, Waited, ShutDown}
+use Rattle.socket_link.specs.Calls.{TookNothing, WasInterrupted, ReadClock, Waited, ShutDown}
 
 -- a note as the call that it represents
 abbrev pub call_noted : NotedCall → SocketCall

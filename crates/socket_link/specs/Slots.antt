@@ -6,8 +6,7 @@ use Rattle.std.specs.Prelude.{List, [], ◌∷◌, Option, Some, None, slice_get
 use Rattle.vod_base.specs.declared.links.TheConstants.{LATEST_SLOT}
 use Rattle.socket_link.specs.declared.sockets.Purpose.{Purpose}
 use Rattle.socket_link.specs.declared.sockets.Purpose.TheVariants.{Slot}
-use Rattle.socket_link.specs.Calls.{SocketCall}
-use Rattle.socket_link.specs.Calls.{ReadClock}
+use Rattle.socket_link.specs.Calls.{SocketCall, ReadClock}
 
 -- the slot that holds a time in nanoseconds since slot 0 began; after the latest slot, that one
 abbrev pub slot_of : ℕ → ℕ → ℕ

@@ -3,8 +3,7 @@ use Rattle.std.specs.Prelude.{◌≡◌, ℕ, ◌≤◌, List, [], ◌∷◌, Op
 use Rattle.socket_link.specs.declared.sockets.Purpose.{Purpose}
 use Rattle.socket_link.specs.declared.sockets.Purpose.TheVariants.{Slot, Patience, End}
 use Rattle.socket_link.specs.declared.limits.TheConstants.{RETRY}
-use Rattle.socket_link.specs.Calls.{SocketCall}
-use Rattle.socket_link.specs.Calls.{ReadClock, Waited}
+use Rattle.socket_link.specs.Calls.{SocketCall, ReadClock, Waited}
 use Rattle.socket_link.specs.Slots.{IsRest}
 
 -- A wait after a reading of the clock: after one for slots, until the next slot begins; after one

@@ -123,8 +123,7 @@ entered_longer v {command} {answer} e =
 
 full_longer : (v : Visit) {more entries live_plays : ℕ} → IsFullFor v.lent v.new more entries live_plays
     → IsPrefix v.lent.entries v.new.entries
-full_longer v f =
-    subst (λ (j : Journal). IsPrefix v.lent.entries j.entries) (sym f.left) (prefix_self v.lent.entries)
+full_longer v f = subst (λ (j : Journal). IsPrefix v.lent.entries j.entries) (sym f.left) (prefix_self v.lent.entries)
 
 pub play_longer : (v : Visit) (r : Result Booking PlayRefused) (heard : ℕ) (plan : List Segment)
     → IfOk r (λ b. IsEntered v.lent v.new v.maker 2 (play_of heard plan) b.number (Admitted b.start))

@@ -1,16 +1,14 @@
 -- What was fed, some bytes more, and how it ends.
-use Rattle.std.proofs.Common.{◌≡◌, ℕ, ◌+◌, ◌-◌, ◌*◌, ◌<◌, ◌≤◌, true, nat_lt, nat_le, List, [], ◌∷◌}
-use Rattle.std.proofs.Common.{◌++◌, length, drop, get_or, Option, Some, None, refl, sym, ap, subst}
-use Rattle.std.proofs.Common.{◌∙◌, arith, inl, inr}
+use Rattle.std.proofs.Common.{◌≡◌, ℕ, ◌+◌, ◌-◌, ◌*◌, ◌<◌, ◌≤◌, true, nat_lt, nat_le, List, [], ◌∷◌, ◌++◌, length, drop}
+use Rattle.std.proofs.Common.{get_or, Option, Some, None, refl, sym, ap, subst, ◌∙◌, arith, inl, inr}
 use Rattle.std.specs.Prelude.{IsSome, replicate}
 use Rattle.std.proofs.lemmas.Bool.{and_parts, ltb-true, leb-true, le-leb, cond-true}
 use Rattle.std.proofs.lemmas.List.{append_assoc, append-nil, length-append, length-replicate}
 use Rattle.std.proofs.lemmas.List.Concat.{flat_map-append}
 use Rattle.std.proofs.lemmas.Option.{none-some, same_Some}
 use Rattle.sys_demux.specs.PacketContents.{video_in}
-use Rattle.sys_demux.specs.StreamItems.{Item, with_prefix, item_bytes, zeros_of, chosen_next}
-use Rattle.sys_demux.specs.StreamItems.{chosen_after, IsPack, IsPacket, IsItem, AreItems, item_video}
-use Rattle.sys_demux.specs.StreamItems.{video_of, bytes_of}
+use Rattle.sys_demux.specs.StreamItems.{Item, with_prefix, item_bytes, zeros_of, chosen_next, chosen_after, IsPack}
+use Rattle.sys_demux.specs.StreamItems.{IsPacket, IsItem, AreItems, item_video, video_of, bytes_of}
 use Rattle.sys_demux.specs.StreamItems.Item.{Pack, Packet}
 use Rattle.sys_demux.specs.SystemStreams.{IsTruncatedItem, IsEnd, IsFault, IsSystem, IsBadStream}
 use Rattle.sys_demux.specs.SystemStreams.{IsBadByte, IsBadPacket, IsBadValue}
@@ -18,8 +16,7 @@ use Rattle.sys_demux.specs.ValidStates.{least_rest, is_sound}
 use Rattle.sys_demux.specs.ParserStates.{video_from, IsAtPrefix, IsAtHeader, IsAtZeros, IsAtRest, IsShown}
 use Rattle.sys_demux.specs.ParserStates.{IsPart, LeadsTo, IsReached, Part, Reading, end_fault, fault_at, part_after}
 use Rattle.sys_demux.specs.declared.faults.SystemFault.{SystemFault}
-use Rattle.sys_demux.specs.declared.faults.SystemFault.TheVariants.{NotPack, BadCode, BadPacket}
-use Rattle.sys_demux.specs.declared.faults.SystemFault.TheVariants.{Truncated}
+use Rattle.sys_demux.specs.declared.faults.SystemFault.TheVariants.{NotPack, BadCode, BadPacket, Truncated}
 use Rattle.sys_demux.specs.declared.headers.Header.{Header}
 use Rattle.sys_demux.specs.declared.headers.Header.TheVariants.{Stuffing, Second, Stamp, Rest}
 use Rattle.sys_demux.specs.declared.parser_states.ParserState.{ParserState}

@@ -1,12 +1,9 @@
 -- The header of a packet's content, field by field.
-use Rattle.std.proofs.Common.{◌≡◌, ℕ, ◌+◌, ◌/◌, ◌<◌, ◌≤◌, ◌==◌, ◌↔◌, cond, nat_le}
-use Rattle.std.proofs.Common.{zero, suc, List, [], ◌∷◌, ◌++◌, length, take, drop, Some}
-use Rattle.std.proofs.Common.{None}
-use Rattle.std.proofs.Common.{refl, sym, ap, ◌∙◌, arith, inl, inr, eq-eqb, ne_eqb}
+use Rattle.std.proofs.Common.{◌≡◌, ℕ, ◌+◌, ◌/◌, ◌<◌, ◌≤◌, ◌==◌, ◌↔◌, cond, nat_le, zero, suc, List, [], ◌∷◌, ◌++◌}
+use Rattle.std.proofs.Common.{length, take, drop, Some, None, refl, sym, ap, ◌∙◌, arith, inl, inr, eq-eqb, ne_eqb}
 use Rattle.std.specs.Prelude.{replicate}
 use Rattle.std.proofs.lemmas.Bool.{cases_Bool, cases_eq, cond-true, cond-false, leb-true, le-leb}
-use Rattle.std.proofs.lemmas.List.{append_assoc, drop_at, length-append, length-take-le}
-use Rattle.std.proofs.lemmas.List.{take-append-drop}
+use Rattle.std.proofs.lemmas.List.{append_assoc, drop_at, length-append, length-take-le, take-append-drop}
 use Rattle.std.proofs.lemmas.Option.{none-some, same_Some}
 use Rattle.sys_demux.specs.PacketContents.{video_in, from_stuffing, from_size, from_stamp, after_bytes}
 use Rattle.sys_demux.specs.StandardFields.{HasHeader, IsSizeField, IsStampField}
@@ -76,14 +73,7 @@ size_starts : (size stamp video : List ℕ) → IsSizeField size → IsStampFiel
 size_starts size stamp video (inl none) stamp_is =
     let starts = stamp_starts stamp video stamp_is in (
       starts.first,
-      (
-        starts.rest,
-        (
-          ap (λ (s : List ℕ). s ++ stamp ++ video) none
-              ∙ starts.is,
-          omega (arith, starts.low),
-        ),
-      ),
+      (starts.rest, (ap (λ (s : List ℕ). s ++ stamp ++ video) none ∙ starts.is, omega (arith, starts.low))),
     )
 size_starts [] stamp video (inr h) stamp_is = absurd (omega (arith, h.0))
 size_starts (b ∷ rest) stamp video (inr h) stamp_is = (b, (rest ++ stamp ++ video, (refl, omega (arith, h.1))))

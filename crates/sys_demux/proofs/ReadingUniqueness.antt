@@ -1,7 +1,6 @@
 -- A stream is read in one way.
-use Rattle.std.proofs.Common.{◌≡◌, ◌≢◌, ℕ, ◌+◌, ◌*◌, ◌/◌, ◌<◌, ◌≤◌, true, false, zero, suc, List}
-use Rattle.std.proofs.Common.{[], ◌∷◌, ◌++◌, length, take, drop, Option, None, refl, sym, ap, subst}
-use Rattle.std.proofs.Common.{◌∙◌, ◌⊎◌, arith, inl, inr}
+use Rattle.std.proofs.Common.{◌≡◌, ◌≢◌, ℕ, ◌+◌, ◌*◌, ◌/◌, ◌<◌, ◌≤◌, true, false, zero, suc, List, [], ◌∷◌, ◌++◌, length}
+use Rattle.std.proofs.Common.{take, drop, Option, None, refl, sym, ap, subst, ◌∙◌, ◌⊎◌, arith, inl, inr}
 use Rattle.std.specs.Prelude.{IsSome, replicate}
 use Rattle.std.proofs.lemmas.List.{append_assoc, append-nil, length-append, take_at, drop_at}
 use Rattle.std.proofs.lemmas.List.{take-append-drop, length-take-le, length-drop}
@@ -13,8 +12,7 @@ use Rattle.sys_demux.specs.SystemStreams.{IsEnd, IsEndCode, IsTruncatedItem, IsF
 use Rattle.sys_demux.specs.SystemStreams.{IsBadByte, IsBadPacket, IsBadValue, IsNotPack}
 use Rattle.sys_demux.specs.ParserStates.{Beginning, IsShown}
 use Rattle.sys_demux.specs.declared.faults.SystemFault.{SystemFault}
-use Rattle.sys_demux.specs.declared.faults.SystemFault.TheVariants.{NotPack, BadCode, BadPacket}
-use Rattle.sys_demux.specs.declared.faults.SystemFault.TheVariants.{Truncated}
+use Rattle.sys_demux.specs.declared.faults.SystemFault.TheVariants.{NotPack, BadCode, BadPacket, Truncated}
 use Rattle.sys_demux.proofs.ItemPartLemmas.{prefixed_more, length_prefixed}
 use Rattle.sys_demux.proofs.FedBytesLemmas.{fault_stays}
 
@@ -175,8 +173,7 @@ from_value {value} a v =
 -- an item's start code value is BA or above
 item_value : (chosen : Option ℕ) (a : Item) → IsItem chosen a → HasValue (item_bytes a) (value_of a) × (186 ≤ value_of a)
 item_value chosen (Pack n r) p = (record { zeros = n; rest = r; is = refl }, omega arith)
-item_value chosen (Packet n k h l r) p =
-    (record { zeros = n; rest = h ∷ l ∷ r; is = refl }, omega (arith, p.value_is))
+item_value chosen (Packet n k h l r) p = (record { zeros = n; rest = h ∷ l ∷ r; is = refl }, omega (arith, p.value_is))
 
 first_value : {chosen : Option ℕ} {t : List ℕ} {value : ℕ} → StandsFirst chosen t → HasValue t value → 186 ≤ value
 first_value {chosen} {t} a v =
@@ -191,10 +188,8 @@ first_value {chosen} {t} a v =
 
 -- no item stands where the stream ends
 pub item_no_end : {chosen : Option ℕ} {t : List ℕ} → StandsFirst chosen t → IsEnd t → ⊥
-item_no_end a (inl z) =
-    zeros_no_prefix z.count (zeros_of a.item) (rest_of a.item ++ a.rest) (sym z.are ∙ as_prefixed a)
-item_no_end a (inr c) =
-    omega (arith, first_value a (record { zeros = c.zeros; rest = c.rest; is = c.is }))
+item_no_end a (inl z) = zeros_no_prefix z.count (zeros_of a.item) (rest_of a.item ++ a.rest) (sym z.are ∙ as_prefixed a)
+item_no_end a (inr c) = omega (arith, first_value a (record { zeros = c.zeros; rest = c.rest; is = c.is }))
 
 -- nor where a fault does
 mark_other : {rest : List ℕ} {mark : ℕ} (chosen : Option ℕ) (a : Item) (x : List ℕ) → IsItem chosen a
@@ -247,8 +242,7 @@ end_value c = record { zeros = c.zeros; rest = c.rest; is = c.is }
 -- a truncated item with the bytes that it lacks
 abbrev pub cut_stands : {chosen : Option ℕ} {start place : ℕ} {t : List ℕ} (f : IsTruncatedItem chosen start t place)
     → StandsFirst chosen (t ++ f.lacking)
-cut_stands f =
-    record { item = f.item; rest = []; is_item = f.is_item; is = append-nil (item_bytes f.item) ∙ f.is }
+cut_stands f = record { item = f.item; rest = []; is_item = f.is_item; is = append-nil (item_bytes f.item) ∙ f.is }
 
 -- what no item stands before
 Stops : Option ℕ → List ℕ → Type 0
@@ -262,8 +256,7 @@ fault_stops chosen start t (NotPack place) f =
 fault_stops chosen start t (BadCode place) (inl f) = λ a.
     byte_no_prefix f
     (record { zeros = zeros_of a.item; rest = rest_of a.item ++ a.rest; is = as_prefixed a })
-fault_stops chosen start t (BadCode place) (inr f) =
-    λ a. omega (arith, first_value a (low_value f), f.low)
+fault_stops chosen start t (BadCode place) (inr f) = λ a. omega (arith, first_value a (low_value f), f.low)
 fault_stops chosen start t (BadPacket place) f =
     λ a. content_bad a.item a.rest f a.is_item (from_value a (packet_value f))
 fault_stops chosen start t (Truncated place) f = λ a.
@@ -349,13 +342,11 @@ fault_once : {one other : SystemFault} (at : Beginning) (t : List ℕ) → IsFau
     → IsFault at.chosen at.start t other → one ≡ other
 fault_once {one = NotPack p} {other = NotPack q} at t f g =
     ap NotPack (omega (arith, f.place_is, g.place_is, (value_once (pack_value f) (pack_value g)).0))
-fault_once {one = NotPack p} {other = BadCode q} at t f g =
-    absurd (omega (arith, code_low g (pack_value f)))
+fault_once {one = NotPack p} {other = BadCode q} at t f g = absurd (omega (arith, code_low g (pack_value f)))
 fault_once {one = NotPack p} {other = BadPacket q} at t f g =
     absurd (omega (arith, (value_once (pack_value f) (packet_value g)).1, g.value_is))
 fault_once {one = NotPack p} {other = Truncated q} at t f g = absurd (cut_shows_none (NotPack p) g tt f)
-fault_once {one = BadCode p} {other = NotPack q} at t f g =
-    absurd (omega (arith, code_low f (pack_value g)))
+fault_once {one = BadCode p} {other = NotPack q} at t f g = absurd (omega (arith, code_low f (pack_value g)))
 fault_once {one = BadCode p} {other = BadCode q} at t f g = ap BadCode (code_once f g)
 fault_once {one = BadCode p} {other = BadPacket q} at t f g =
     absurd (omega (arith, code_low f (packet_value g), g.value_is))
@@ -439,8 +430,7 @@ pub system_once : (bytes one other : List ℕ) (a : IsSystem bytes one) (b : IsS
 system_once bytes one other a b = items_once (system_read a) (system_read b)
 
 pub video_once : (bytes one other : List ℕ) → IsSystem bytes one → IsSystem bytes other → one ≡ other
-video_once bytes one other a b =
-    a.video_is ∙ ap (video_of None) (system_once bytes one other a b).0 ∙ sym b.video_is
+video_once bytes one other a b = a.video_is ∙ ap (video_of None) (system_once bytes one other a b).0 ∙ sym b.video_is
 
 pub not_both : (bytes video : List ℕ) (fault : SystemFault) → IsSystem bytes video → IsBadStream bytes fault → ⊥
 not_both bytes video fault a b =

@@ -1,9 +1,7 @@
 -- What is refused after a stream in the fields of the standard.
-use Rattle.std.proofs.Common.{◌≡◌, ◌≢◌, ℕ, zero, suc, ◌+◌, ◌-◌, ◌/◌, ◌%◌, ◌<◌, ◌≤◌, ◌⊎◌, true}
-use Rattle.std.proofs.Common.{drop, get_or, replicate, take}
-use Rattle.std.proofs.Common.{List, [], ◌∷◌, ◌++◌, length, Option, Some, None, refl, sym, ap, subst}
-use Rattle.std.proofs.Common.{◌∙◌}
-use Rattle.std.proofs.Common.{arith, inl, inr, eq-eqb}
+use Rattle.std.proofs.Common.{◌≡◌, ◌≢◌, ℕ, zero, suc, ◌+◌, ◌-◌, ◌/◌, ◌%◌, ◌<◌, ◌≤◌, ◌⊎◌, true, drop, get_or, replicate}
+use Rattle.std.proofs.Common.{take, List, [], ◌∷◌, ◌++◌, length, Option, Some, None, refl, sym, ap, subst, ◌∙◌, arith}
+use Rattle.std.proofs.Common.{inl, inr, eq-eqb}
 use Rattle.std.proofs.lemmas.List.{append-nil, get_or-drop, length-drop, length-take-le, nil_from_length}
 use Rattle.std.proofs.lemmas.List.{take-append-drop}
 use Rattle.sys_demux.specs.PacketContents.{video_in}
@@ -14,12 +12,10 @@ use Rattle.sys_demux.specs.StandardFields.{stream_bytes, video_stream_id, with_c
 use Rattle.sys_demux.specs.StandardFields.Element.{PackHeader, VideoPacket, OtherPacket}
 use Rattle.sys_demux.specs.SystemStreams.{IsFault, IsBadStream}
 use Rattle.sys_demux.specs.declared.faults.SystemFault.{SystemFault}
-use Rattle.sys_demux.specs.declared.faults.SystemFault.TheVariants.{BadCode, BadPacket, NotPack}
-use Rattle.sys_demux.specs.declared.faults.SystemFault.TheVariants.{Truncated}
+use Rattle.sys_demux.specs.declared.faults.SystemFault.TheVariants.{BadCode, BadPacket, NotPack, Truncated}
 use Rattle.sys_demux.proofs.PacketHeaderLemmas.{header_is}
-use Rattle.sys_demux.proofs.StandardStreamLemmas.{Fits, element_read, elements_read, items_bytes}
-use Rattle.sys_demux.proofs.StandardStreamLemmas.{item_of, items_of, same_bytes}
-use Rattle.sys_demux.proofs.StandardStreamLemmas.{next, value_by, video_chosen}
+use Rattle.sys_demux.proofs.StandardStreamLemmas.{Fits, element_read, elements_read, items_bytes, item_of, items_of}
+use Rattle.sys_demux.proofs.StandardStreamLemmas.{same_bytes, next, value_by, video_chosen}
 
 -- the first stream of video, where one was known before
 abbrev first_of : Option ℕ → Option ℕ → Option ℕ

@@ -1,25 +1,18 @@
 -- A stream in the fields of the standard is read as these fields say.
-use Rattle.std.proofs.Common.{◌≡◌, ℕ, ◌/◌, ◌%◌, ◌^◌, ◌<◌, ◌≤◌, ◌==◌, false}
-use Rattle.std.proofs.Common.{cond}
-use Rattle.std.proofs.Common.{List, [], ◌∷◌, ◌++◌, length, Option, Some, None, refl, sym, ap, subst}
-use Rattle.std.proofs.Common.{◌∙◌}
-use Rattle.std.proofs.Common.{arith, inl, inr, eq-eqb, ne_eqb, nat_le}
+use Rattle.std.proofs.Common.{◌≡◌, ℕ, ◌/◌, ◌%◌, ◌^◌, ◌<◌, ◌≤◌, ◌==◌, false, cond, List, [], ◌∷◌, ◌++◌, length, Option}
+use Rattle.std.proofs.Common.{Some, None, refl, sym, ap, subst, ◌∙◌, arith, inl, inr, eq-eqb, ne_eqb, nat_le}
 use Rattle.std.specs.Prelude.{IsSome, unwrap_or}
-use Rattle.std.proofs.lemmas.Bool.{and_left, and_right, and_from, both_ways, cases_eq, cond-false}
-use Rattle.std.proofs.lemmas.Bool.{cond-true}
-use Rattle.std.proofs.lemmas.Bool.{le-leb, lt-leb}
+use Rattle.std.proofs.lemmas.Bool.{and_left, and_right, and_from, both_ways, cases_eq, cond-false, cond-true, le-leb}
+use Rattle.std.proofs.lemmas.Bool.{lt-leb}
 use Rattle.sys_demux.specs.PacketContents.{video_in}
 use Rattle.sys_demux.specs.StreamItems.{Item, item_bytes, choose, is_chosen, is_video_stream_id, chosen_next}
 use Rattle.sys_demux.specs.StreamItems.{IsItem, AreItems, item_video, video_of, bytes_of}
 use Rattle.sys_demux.specs.StreamItems.Item.{Pack, Packet}
-use Rattle.sys_demux.specs.StandardFields.{Buffer, Stamps, Element, pack_fields, buffer_bytes}
-use Rattle.sys_demux.specs.StandardFields.{stamp_bytes}
-use Rattle.sys_demux.specs.StandardFields.{content_of, video_stream_id, element_bytes, stream_bytes}
-use Rattle.sys_demux.specs.StandardFields.{FitsBuffer}
-use Rattle.sys_demux.specs.StandardFields.{FitStamps, IsOtherValue, IsVideoPacket, IsElement, AreElements}
-use Rattle.sys_demux.specs.StandardFields.{IsStreamEnd}
-use Rattle.sys_demux.specs.StandardFields.{first_stream, video_of_stream, video_by, first_video}
-use Rattle.sys_demux.specs.StandardFields.{IsSizeField, IsStampField}
+use Rattle.sys_demux.specs.StandardFields.{Buffer, Stamps, Element, pack_fields, buffer_bytes, stamp_bytes, content_of}
+use Rattle.sys_demux.specs.StandardFields.{video_stream_id, element_bytes, stream_bytes, FitsBuffer, FitStamps}
+use Rattle.sys_demux.specs.StandardFields.{IsOtherValue, IsVideoPacket, IsElement, AreElements, IsStreamEnd}
+use Rattle.sys_demux.specs.StandardFields.{first_stream, video_of_stream, video_by, first_video, IsSizeField}
+use Rattle.sys_demux.specs.StandardFields.{IsStampField}
 use Rattle.sys_demux.specs.StandardFields.Element.{PackHeader, VideoPacket, OtherPacket}
 use Rattle.sys_demux.specs.StandardFields.Stamps.{NoStamp, Shown, ShownAndDecoded}
 use Rattle.sys_demux.specs.SystemStreams.{IsEnd, IsSystem}
@@ -104,8 +97,7 @@ none_chosen value (inr high) =
 
 not_chosen : (first : Option ℕ) (value : ℕ) → Fits first → IsOtherValue value
     → is_chosen (choose (value_by first) value) value ≡ false
-not_chosen None value fits other =
-    ap (λ o. is_chosen o value) (none_chosen value other)
+not_chosen None value fits other = ap (λ o. is_chosen o value) (none_chosen value other)
 not_chosen (Some number) value fits (inl low) = ne_eqb (video_stream_id number) value (λ e. omega (arith, e, low.1))
 not_chosen (Some number) value fits (inr high) =
     ne_eqb (video_stream_id number) value (λ e. omega (arith, e, fits, high.0))

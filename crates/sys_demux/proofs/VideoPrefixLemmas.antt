@@ -3,8 +3,7 @@ use Rattle.std.proofs.Common.{◌≡◌, ℕ, ◌+◌, ◌-◌, List, [], ◌∷
 use Rattle.std.proofs.Common.{Option, None, refl, sym, ap, subst, ◌∙◌, arith, inl, inr}
 use Rattle.std.specs.Prelude.{replicate}
 use Rattle.std.proofs.lemmas.Bool.{cases_lt}
-use Rattle.std.proofs.lemmas.List.{append_assoc, length-append, length-replicate}
-use Rattle.std.proofs.lemmas.List.{take-append-drop, length-take-le}
+use Rattle.std.proofs.lemmas.List.{append_assoc, length-append, length-replicate, take-append-drop, length-take-le}
 use Rattle.sys_demux.specs.StreamItems.{Item, item_bytes, chosen_next, chosen_after, AreItems, item_video}
 use Rattle.sys_demux.specs.StreamItems.{video_of, bytes_of}
 use Rattle.sys_demux.specs.SystemStreams.{IsEnd, IsTruncatedItem, IsSystem}
@@ -135,10 +134,8 @@ part_begins {items} p (Zeros zeros) more is whole = none_begins p.kept (video_of
 part_begins {items} p Value more is whole = none_begins p.kept (video_of p.after.chosen items) is.none
 part_begins {items} p Mark more is whole = none_begins p.kept (video_of p.after.chosen items) is.none
 part_begins {items} p (High value) more is whole = none_begins p.kept (video_of p.after.chosen items) is.0.none
-part_begins {items} p (Low value high) more is whole =
-    none_begins p.kept (video_of p.after.chosen items) is.0.none
-part_begins {items} p (InHeader header left) more is whole =
-    none_begins p.kept (video_of p.after.chosen items) is.none
+part_begins {items} p (Low value high) more is whole = none_begins p.kept (video_of p.after.chosen items) is.0.none
+part_begins {items} p (InHeader header left) more is whole = none_begins p.kept (video_of p.after.chosen items) is.none
 part_begins p (Pass left) more is whole = rest_begins more is whole
 part_begins p (Video left) more is whole = rest_begins more is whole
 part_begins {items} p End more is whole = none_begins p.kept (video_of p.after.chosen items) is.none

@@ -4,8 +4,7 @@ use Rattle.std.specs.Prelude.{◌∷◌, ◌++◌, length, drop, replicate, min,
 use Rattle.sys_demux.specs.PacketContents.{video_in, from_stuffing, from_stamp, after_bytes}
 use Rattle.sys_demux.specs.StreamItems.{Item, with_prefix, item_bytes, zeros_of, choose, is_chosen}
 use Rattle.sys_demux.specs.StreamItems.{chosen_next, chosen_after, IsItem, AreItems, item_video}
-use Rattle.sys_demux.specs.StreamItems.{video_of}
-use Rattle.sys_demux.specs.StreamItems.{bytes_of}
+use Rattle.sys_demux.specs.StreamItems.{video_of, bytes_of}
 use Rattle.sys_demux.specs.SystemStreams.{IsFault}
 use Rattle.sys_demux.specs.declared.faults.SystemFault.{SystemFault}
 use Rattle.sys_demux.specs.declared.faults.SystemFault.TheVariants.{NotPack, BadCode, BadPacket}
@@ -14,9 +13,8 @@ use Rattle.sys_demux.specs.declared.headers.Header.{Header}
 use Rattle.sys_demux.specs.declared.headers.Header.TheVariants.{Stuffing, Second, Stamp, Rest}
 use Rattle.sys_demux.specs.declared.parser_states.ParserState.{ParserState}
 use Rattle.sys_demux.specs.declared.parser_states.ParserState.TheVariants.{Zeros, Value, Mark, High}
-use Rattle.sys_demux.specs.declared.parser_states.ParserState.TheVariants.{Low}
-use Rattle.sys_demux.specs.declared.parser_states.ParserState.TheVariants.{InHeader, Pass, Video}
-use Rattle.sys_demux.specs.declared.parser_states.ParserState.TheVariants.{End, Failed}
+use Rattle.sys_demux.specs.declared.parser_states.ParserState.TheVariants.{Low, InHeader, Pass}
+use Rattle.sys_demux.specs.declared.parser_states.ParserState.TheVariants.{Video, End, Failed}
 use Rattle.sys_demux.specs.declared.unwrapper.Unwrapper.{Unwrapper}
 
 -- the video in the rest of a content, by where in its header that begins
@@ -122,8 +120,7 @@ abbrev pub IsPart : Part → ParserState → Type 0
 IsPart p (Zeros zeros) = IsAtZeros p zeros
 IsPart p Value = IsAtPrefix p [] p.after.chosen
 IsPart p Mark = IsAtPrefix p (186 ∷ []) p.after.chosen
-IsPart p (High value) =
-    IsAtPrefix p (value ∷ []) (choose p.after.chosen value) × (187 ≤ value)
+IsPart p (High value) = IsAtPrefix p (value ∷ []) (choose p.after.chosen value) × (187 ≤ value)
 IsPart p (Low value high) =
     IsAtPrefix p (value ∷ high ∷ []) (choose p.after.chosen value) × (187 ≤ value)
 IsPart p (InHeader header left) = IsAtHeader p header left

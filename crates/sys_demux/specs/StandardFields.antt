@@ -1,9 +1,8 @@
 -- A system stream in the fields of ISO/IEC 11172-1, 2.4.3, as a multiplexer writes them: packs and
 -- packets, each field a number of so many bits, the highest first, and each marker bit 1.
 use Rattle.std.specs.Prelude.{◌≡◌, ℕ, ◌+◌, ◌-◌, ◌*◌, ◌/◌, ◌%◌, ◌^◌, ◌<◌, ◌≤◌, ◌==◌, ◌⊎◌}
-use Rattle.std.specs.Prelude.{if◌then◌else◌}
-use Rattle.std.specs.Prelude.{◌≢◌, List, [], ◌∷◌, ◌++◌, length, replicate, slice_index, Option, Some}
-use Rattle.std.specs.Prelude.{None, take}
+use Rattle.std.specs.Prelude.{if◌then◌else◌, ◌≢◌, List, [], ◌∷◌, ◌++◌, length, replicate}
+use Rattle.std.specs.Prelude.{slice_index, Option, Some, None, take}
 
 -- 16 bits, and 24
 abbrev pub two_bytes : ℕ → List ℕ

@@ -4,9 +4,8 @@ use Rattle.sys_demux.specs.declared.headers.Header.{Header}
 use Rattle.sys_demux.specs.declared.headers.Header.TheVariants.{Stuffing, Second, Stamp, Rest}
 use Rattle.sys_demux.specs.declared.parser_states.ParserState.{ParserState}
 use Rattle.sys_demux.specs.declared.parser_states.ParserState.TheVariants.{Zeros, Value, Mark, High}
-use Rattle.sys_demux.specs.declared.parser_states.ParserState.TheVariants.{Low}
-use Rattle.sys_demux.specs.declared.parser_states.ParserState.TheVariants.{InHeader, Pass, Video}
-use Rattle.sys_demux.specs.declared.parser_states.ParserState.TheVariants.{End, Failed}
+use Rattle.sys_demux.specs.declared.parser_states.ParserState.TheVariants.{Low, InHeader, Pass}
+use Rattle.sys_demux.specs.declared.parser_states.ParserState.TheVariants.{Video, End, Failed}
 
 -- the fewest bytes that the rest of a content has there
 abbrev pub least_rest : Header → ℕ

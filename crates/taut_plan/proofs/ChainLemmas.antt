@@ -121,7 +121,4 @@ open_joins {read} {o} [] q open_ turns = record {
 open_joins {read} {o} (p ∷ front) q open_ turns =
     let rest = open_joins {read = read} {o = p} front q open_.1 turns in
     let here = turns_before (front ++ q ∷ []) open_.0 (open_.1, rest.first_turns) in
-    record {
-      first_turns = here;
-      joined = (longer open_.0 here, rest.joined);
-    }
+    record { first_turns = here; joined = (longer open_.0 here, rest.joined) }

@@ -27,17 +27,13 @@ high o b up = omega (arith, up)
 
 ray_past : (side : Side) (o b p : Point) → o.height ≤ b.height → IsInside side o b p
     → IsPast side (ray_at o b p) (p.height * (b.place - o.place))
-ray_past Lower o b p up inside =
-    let e = ap (λ h. (p.place - o.place) * h) (high o b up) in omega (arith, inside, e)
-ray_past Upper o b p up inside =
-    let e = ap (λ h. (p.place - o.place) * h) (high o b up) in omega (arith, inside, e)
+ray_past Lower o b p up inside = let e = ap (λ h. (p.place - o.place) * h) (high o b up) in omega (arith, inside, e)
+ray_past Upper o b p up inside = let e = ap (λ h. (p.place - o.place) * h) (high o b up) in omega (arith, inside, e)
 
 ray_within : (side : Side) (o b p : Point) → o.height ≤ b.height → IsWithin side o p b
     → IsOrdered side (p.height * (b.place - o.place)) (ray_at o b p)
-ray_within Lower o b p up within =
-    let e = ap (λ h. (p.place - o.place) * h) (high o b up) in omega (arith, within, e)
-ray_within Upper o b p up within =
-    let e = ap (λ h. (p.place - o.place) * h) (high o b up) in omega (arith, within, e)
+ray_within Lower o b p up within = let e = ap (λ h. (p.place - o.place) * h) (high o b up) in omega (arith, within, e)
+ray_within Upper o b p up within = let e = ap (λ h. (p.place - o.place) * h) (high o b up) in omega (arith, within, e)
 
 -- the line goes from a point between the curves to one that is no lower, and each curve stays on its side of the line
 record LeadsBetween (lo hi : ℕ → ℕ) (o b : Point) : Type 0 where

@@ -4,8 +4,7 @@ use Rattle.std.proofs.Common.{subst, ap, ◌∙◌, inl, inr}
 use Rattle.std.proofs.lemmas.List.{take_more, take_all, take_at, length-append}
 use Rattle.taut_plan.specs.declared.points.Point.{Point}
 use Rattle.taut_plan.specs.Slopes.{IsWithin, IsInside}
-use Rattle.taut_plan.specs.Chain.{ReadCurve, last_point, IsLastEdge, IsLastDropped, CanAppend}
-use Rattle.taut_plan.specs.Chain.{EdgesAscend}
+use Rattle.taut_plan.specs.Chain.{ReadCurve, last_point, IsLastEdge, IsLastDropped, CanAppend, EdgesAscend}
 use Rattle.taut_plan.proofs.ChainLemmas.{IsOpen, ChainOf, next_of, and_next, open_pops, open_joins, open_joins_alone}
 
 pub last_point-push : (o : Point) (chain : List Point) (p : Point) → last_point o (chain ++ p ∷ []) ≡ p

@@ -27,8 +27,7 @@ point_at_place links place link inside is p =
 
 -- how many points are left
 pub length_left : (links : List Link) (passed : ℕ) → length (drop passed (points_of links)) ≡ length links - passed
-length_left links passed =
-    omega (arith, length-drop passed (points_of links), length-map links (λ (l : Link). l.point))
+length_left links passed = omega (arith, length-drop passed (points_of links), length-map links (λ (l : Link). l.point))
 
 -- the point of a link, counted from the first that is left
 point_left : (links : List Link) (passed i : ℕ) (link : Link) → passed + i < length links

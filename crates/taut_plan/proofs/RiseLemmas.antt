@@ -88,8 +88,7 @@ edges_rise read {o} open_ rises start first second edge =
         let up = rises o.place q.place (omega (arith, later)) (omega (arith, near)) in
         let end = rises q.place (s + 1) (omega (arith, near)) (omega arith) in
         (rising_on side curve o q start (omega (arith, up, on)), omega (arith, on, end))
-    open_rises o (p ∷ front) q open_ start =
-        open_rises p front q open_.1 (rising_itself side curve p open_.0.on)
+    open_rises o (p ∷ front) q open_ start = open_rises p front q open_.1 (rising_itself side curve p open_.0.on)
 
 pub ends_before : (side : Side) {o : Point} {chain : List Point} {point : Point} → EdgesAscend o chain point
     → EdgesRise side o chain point → EndsBefore chain point

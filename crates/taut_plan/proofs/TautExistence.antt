@@ -227,8 +227,5 @@ one_taut from low up sound =
     let end = ends_at band refl r.is in
     let segments = r.reached.segments ++ segment_to r.reached.apex (on_curve (bound_at from up) (length low)) ∷ [] in (
       segments,
-      (
-        taut_of_whole from low up segments sound end.whole,
-        (best_of_whole from low up segments sound end.whole).only,
-      ),
+      (taut_of_whole from low up segments sound end.whole, (best_of_whole from low up segments sound end.whole).only),
     )

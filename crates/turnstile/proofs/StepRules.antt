@@ -39,8 +39,7 @@ pub record KeptValue : Type 1 where
 
 -- by one of the values, whose own it keeps
 abbrev pub kept_by : {B : Type 0} (entries : B → List Entry) (terms_of : B → Terms) → B → KeptValue
-kept_by {B} entries terms_of value =
-    record { B = B; entries = entries; terms_of = terms_of; terms = terms_of value }
+kept_by {B} entries terms_of value = record { B = B; entries = entries; terms_of = terms_of; terms = terms_of value }
 
 module _ (kept : KeptValue) where
   open kept use {B, entries, terms_of, terms}

@@ -24,8 +24,7 @@ pub record LockState : Type 0 where
 
 -- the shared words then
 abbrev pub words_of : LockState → List ℕ
-words_of lock =
-    lock.drawn % 2 ^ 64 ∷ lock.served % 2 ^ 64 ∷ length lock.log % 2 ^ 64 ∷ []
+words_of lock = lock.drawn % 2 ^ 64 ∷ lock.served % 2 ^ 64 ∷ length lock.log % 2 ^ 64 ∷ []
 
 -- the numbers of f, added up
 abbrev pub total : (View → ℕ) → List View → ℕ

@@ -43,8 +43,7 @@ pub record IsPassed (front new : EventCursor) : Type 0 where
 
 pub left_passed : (events : List Event) {front new : EventCursor} → IsPassed front new
     → left_from events new ≡ rest_from events front
-left_passed events {front} passed =
-    rw (passed.event, passed.offset) (whole (rest_from events front))
+left_passed events {front} passed = rw (passed.event, passed.offset) (whole (rest_from events front))
 
 -- an event of which no bytes are left is passed over
 pub empty_passed : {events : List Event} {front : EventCursor} {bytes : Vec ℕ Global}

@@ -1,8 +1,7 @@
 -- What the words on numbers, names and blanks come to.
 use Rattle.std.proofs.Common.{◌≡◌, ◌≢◌, ◌<◌, ◌≤◌, ◌-◌, ◌^◌, ◌&&◌, ◌==◌, if◌then◌else◌, ℕ, zero, suc, Bool, true, false}
-use Rattle.std.proofs.Common.{not}
-use Rattle.std.proofs.Common.{List, [], ◌∷◌, ◌++◌, length, slice_index, decimal, replicate, reverse, get_or}
-use Rattle.std.proofs.Common.{Some, None, nat_lt, nat_le, inl, inr, arith, refl, sym, ap, subst, ◌∙◌, lt-ltb, ltb-true}
+use Rattle.std.proofs.Common.{not, List, [], ◌∷◌, ◌++◌, length, slice_index, decimal, replicate, reverse, get_or, Some}
+use Rattle.std.proofs.Common.{None, nat_lt, nat_le, inl, inr, arith, refl, sym, ap, subst, ◌∙◌, lt-ltb, ltb-true}
 use Rattle.std.specs.List.{list_all}
 use Rattle.std.specs.Char.{is_ascii_digit}
 use Rattle.std.specs.Str.Parse.{digits_value}

@@ -65,12 +65,7 @@ abbrev pub split_off : Content → Content
 split_off c = record c { parts = c.parts ++ (None ∷ []) }
 
 abbrev pub new_part : Content → Content
-new_part c = record {
-  openings = 0;
-  opening = None;
-  parts = [];
-  own = fresh_part (length c.parts);
-}
+new_part c = record { openings = 0; opening = None; parts = []; own = fresh_part (length c.parts) }
 
 -- after a `take` that gave a connection, and after one that gave none
 abbrev pub after_take : Content → Content

@@ -4,8 +4,7 @@ use Rattle.std.specs.Prelude.{Option, Some, None}
 use Rattle.vod_base.specs.IoState.{one_more}
 use Rattle.vod_base.specs.MemoryLinks.{LinkState}
 use Rattle.vod_base.specs.Gates.{LastTake, NoneYet, Gave, NoMore, Failed, ReturnedConn, Part}
-use Rattle.vod_base.specs.Gates.{Content}
-use Rattle.vod_base.specs.Gates.{new_part}
+use Rattle.vod_base.specs.Gates.{Content, new_part}
 use Rattle.vod_base.specs.declared.memory_gates.MemoryPart.{MemoryPart}
 use Rattle.vod_base.specs.declared.part_links.TakeResult.{TakeResult}
 use Rattle.vod_base.specs.declared.part_links.TakeResult.TheVariants.{Nothing, Link, NoLink, Fault}

@@ -89,14 +89,7 @@ left_after room left = rest_left room (without_empty_front left)
 
 -- begun anew: all events are left, nothing was done, and no call was made
 abbrev pub link_begun : LinkState → LinkState
-link_begun s = record s {
-  told = [];
-  left = s.script;
-  events = 0;
-  sends = 0;
-  nexts = 0;
-  faults = 0;
-}
+link_begun s = record s { told = []; left = s.script; events = 0; sends = 0; nexts = 0; faults = 0 }
 
 -- whether the next call of `next` fails: its number is named, or all events were handed out that
 -- there is room for

@@ -20,7 +20,7 @@ use Rattle.conn.specs.declared.reports.PartEnd.{PartEnd}
 use Rattle.conn.specs.declared.reports.PartEnd.TheVariants.{GateFault as PartFault}
 use Rattle.cli_args.specs.Settings.{setting_value, texts, values_of}
 use Rattle.cli_args.specs.ArgumentText.{AreValidFilms}
-use Rattle.cli_args.specs.Invocations.{are_films}
+use Rattle.cli_args.specs.Invocations.{are_films, ServeArgs}
 use Rattle.cli_args.proofs.FilmLemmas.{films_asked}
 use Rattle.vod_base.specs.IoState.{File, HasRisen}
 use Rattle.inputs.specs.ChunkScans.{HoldsVideo}
@@ -32,20 +32,17 @@ use Rattle.admission.specs.Books.{places_taken}
 use Rattle.admission.specs.Histories.{IsLegal}
 use Rattle.admission.specs.Makers.{entries_by}
 use Rattle.station.specs.Seats.{StationState, SeatState, IsJournalOf}
-use Rattle.cli_args.specs.Invocations.{ServeArgs}
 use Rattle.cli_errors.specs.declared.errors.InputError.{InputError}
 use Rattle.cli_errors.specs.declared.errors.CliError.{CliError}
 use Rattle.cli_errors.specs.declared.errors.CliError.TheVariants.{Usage, Refused, StoreFault}
 use Rattle.cli_errors.specs.declared.errors.CliError.TheVariants.{SinkFault, NoMemory, GateFault, LinkFault}
 use Rattle.inputs.specs.LoadErrors.{IsServedFilmRefused}
 use Rattle.vodserve.specs.IoStates.{IoState}
-use Rattle.vodserve.specs.WorkerResults.{AreWorkerResults, AreLeft, AreLoaded, HasOne, IsWorkerResult}
-use Rattle.vodserve.specs.WorkerResults.{IsWorkersResult, IsHeld}
-use Rattle.vodserve.specs.WorkerResults.{IsOpenAs, MayBeServed, ServerRun, opening_of}
+use Rattle.vodserve.specs.WorkerResults.{AreWorkerResults, AreLeft, AreLoaded, HasOne, IsWorkerResult, IsWorkersResult}
+use Rattle.vodserve.specs.WorkerResults.{IsHeld, IsOpenAs, MayBeServed, ServerRun, opening_of}
 use Rattle.vodserve.specs.Workers.{AreJoined, IsMakeWorkersError, report_of}
 use Rattle.vodserve.specs.ServerOutput.{HasOnlyOpened, IsFilmError, IsFirstRefused, IsJournal, IsNewlyOpen}
-use Rattle.vodserve.specs.ServerOutput.{IsServeError}
-use Rattle.vodserve.specs.ServerOutput.{IsWordNamed}
+use Rattle.vodserve.specs.ServerOutput.{IsServeError, IsWordNamed}
 use Rattle.vodserve.specs.declared.workers.Worker.{Worker}
 use Rattle.vodserve.proofs.WorkerLemmas.{HaveFinished, WorkersOf, all_worked}
 use Rattle.vodserve.proofs.GateLemmas.{counted_parts, risen_since, risen_some}

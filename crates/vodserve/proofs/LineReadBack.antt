@@ -167,8 +167,7 @@ served_told entries connections small small' =
       last = record {
         front = last.front;
         text_is = last.shape;
-        one_line =
-            last_clean connections (length entries) small small';
+        one_line = last_clean connections (length entries) small small';
       };
       connections_told = counted (record {
         connections = connections;

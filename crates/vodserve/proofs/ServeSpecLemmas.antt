@@ -23,9 +23,8 @@ use Rattle.vodserve.specs.Run.{Ends, HasServed, ServeSpec}
 use Rattle.vodserve.specs.IoStates.{IoState, World, streams_of}
 use Rattle.vodserve.specs.ServerOutput.{IsPrinted, IsServeError}
 use Rattle.vodserve.specs.declared.run_results.Ended.{Ended}
-use Rattle.vodserve.specs.WorkerResults.{AreLeft, IsPartBack, HasTooFewParts, IsWorkerResult}
-use Rattle.vodserve.specs.WorkerResults.{IsOpenAs, IsOpenedOnce, HasParts}
-use Rattle.vodserve.specs.WorkerResults.{MayBeServed, ServerRun, opening_of, server_run}
+use Rattle.vodserve.specs.WorkerResults.{AreLeft, IsPartBack, HasTooFewParts, IsWorkerResult, IsOpenAs, IsOpenedOnce}
+use Rattle.vodserve.specs.WorkerResults.{HasParts, MayBeServed, ServerRun, opening_of, server_run}
 use Rattle.vodserve.proofs.GateLemmas.{risen_some}
 use Rattle.vodserve.proofs.PrintLemmas.{WorldChange}
 use Rattle.vodserve.proofs.FilmLoadLemmas.{WorkersRun, Keeps, ServingRun, loaded_accepted, worker_worked}
@@ -107,8 +106,7 @@ same_gate {held} served NoMemory film is tells = elim is [
   | inl same ↦ same
   | inr opened ↦ absurd (not_accepted film (opened.accepted held tells))
 ]
-same_gate {held} served GateFault film is tells =
-    absurd (not_accepted film (is.1.accepted held tells))
+same_gate {held} served GateFault film is tells = absurd (not_accepted film (is.1.accepted held tells))
 same_gate served LinkFault film is tells = absurd is
 
 -- a film that is refused is never served

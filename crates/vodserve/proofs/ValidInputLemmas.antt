@@ -3,8 +3,7 @@ use Rattle.std.proofs.Common.{◌≡◌, ◌⊎◌, ◌∙◌, List, ℕ, Option
 use Rattle.vod_base.specs.IoState.{File, told_more}
 use Rattle.cli_args.specs.declared.invocations.FairRun.{FairRun}
 use Rattle.cli_args.specs.Invocations.{Invocation, ScriptRun, ServeArgs, check_of, day_of, fair_of, help, make_of}
-use Rattle.cli_args.specs.Invocations.{plan_of}
-use Rattle.cli_args.specs.Invocations.{scan_of, serve_of, version, watch_of}
+use Rattle.cli_args.specs.Invocations.{plan_of, scan_of, serve_of, version, watch_of}
 use Rattle.cli_errors.specs.ReadErrors.{IsReadError}
 use Rattle.cli_errors.specs.ExitStatuses.{status_of}
 use Rattle.cli_errors.specs.declared.errors.InputError.{InputError}
@@ -78,8 +77,7 @@ day_by_memory : {w : WorldChange} {run : ScriptRun} (error : CliError) →
     (IsDayRefused run.script) w.before.store.told w.before.store.faults
     w.after.store.faults error → status_of error ≡ 6
 day_by_memory Usage may none is = absurd is
-day_by_memory (Refused name fault) may none is =
-    absurd (may.accepted name.now fault (is.1 may.held may.told_is))
+day_by_memory (Refused name fault) may none is = absurd (may.accepted name.now fault (is.1 may.held may.told_is))
 day_by_memory (StoreFault name) may none is = absurd (none.store is.1)
 day_by_memory SinkFault may none is = absurd is
 day_by_memory NoMemory may none is = refl
@@ -94,10 +92,7 @@ day_whole {w} {run} {ended} may none (inr ran) =
     let whole = text_whole w.before w.after ran.ran.text none ran.ran.written in
     inl (record {
       text = ran.ran.text;
-      work = (
-        whole.0,
-        λ held told. runs_its_day held w.before.store (streams_of w.before w.after) run ended ran told,
-      );
+      work = (whole.0, λ held told. runs_its_day held w.before.store (streams_of w.before w.after) run ended ran told);
       wrote = whole.1;
       quiet = whole.2;
     })
@@ -105,8 +100,7 @@ day_whole {w} {run} {ended} may none (inr ran) =
 fair_whole : {before after : World} {run : FairRun} {ended : Ended} → HasNoFault before after →
     FairSpec (streams_of before after) run ended →
     HasSucceeded before after (fair_of run) ended ⊎ (ended.status ≡ 6)
-fair_whole none (inl kept) =
-    inr (kept.1.3.status ∙ subst (λ (t : CliError). status_of t ≡ 6) (sym kept.1.0) refl)
+fair_whole none (inl kept) = inr (kept.1.3.status ∙ subst (λ (t : CliError). status_of t ≡ 6) (sym kept.1.0) refl)
 fair_whole {before} {after} none (inr ran) =
     let whole = text_whole before after ran.ran.text none ran.ran.written in
     inl (record { text = ran.ran.text; work = (whole.0, ran.ran.day); wrote = whole.1; quiet = whole.2 })

@@ -1,7 +1,6 @@
 -- Workers that are made, run and joined.
-use Rattle.std.proofs.Common.{◌≡◌, ◌≢◌, ◌⊎◌, ◌∙◌, ◌+◌, ◌<◌, ◌≤◌, ℕ, List, [], ◌∷◌, ◌++◌, length}
-use Rattle.std.proofs.Common.{Option, Some, None, inl, inr, sym, ap, subst, refl, suc, zero, arith}
-use Rattle.std.proofs.Common.{add-zero, zero-add, length-append}
+use Rattle.std.proofs.Common.{◌≡◌, ◌≢◌, ◌⊎◌, ◌∙◌, ◌+◌, ◌<◌, ◌≤◌, ℕ, List, [], ◌∷◌, ◌++◌, length, Option, Some, None}
+use Rattle.std.proofs.Common.{inl, inr, sym, ap, subst, refl, suc, zero, arith, add-zero, zero-add, length-append}
 use Rattle.std.specs.Prelude.{IfSome, All, map, slice_index_or, slice_set}
 use mathlib.Core.List.{IsPrefix}
 use Rattle.std.proofs.Math.ListN.{length-set, get_or-append}
@@ -26,8 +25,7 @@ use Rattle.conn.specs.declared.reports.PartEnd.{PartEnd}
 use Rattle.cli_args.specs.Invocations.{ServeArgs}
 use Rattle.conn.specs.declared.reports.PartEnd.TheVariants.{AllTaken, GateFault as PartFault, NoMemory}
 use Rattle.vodserve.specs.WorkerResults.{AreWorkerResults, AreLeft, IsPartBack, HasOne, IsWorkerResult, IsWorse}
-use Rattle.vodserve.specs.WorkerResults.{ServerRun}
-use Rattle.vodserve.specs.WorkerResults.{all_reports, settings_of}
+use Rattle.vodserve.specs.WorkerResults.{ServerRun, all_reports, settings_of}
 use Rattle.vodserve.specs.Workers.{ArePartsBack, AreJoined, ArePartsOut, AreWorkers, HasFinished, IsWorker, joined_of}
 use Rattle.vodserve.specs.Workers.{report_of}
 use Rattle.vodserve.specs.declared.workers.Worker.{Worker}

@@ -35,8 +35,7 @@ pub record Streams : Type 0 where
 
 abbrev pub streams : IoState (List ℕ) → IoState (List ℕ) → IoState (List ℕ) → IoState (List ℕ) →
     Streams
-streams out out' err err' =
-    record { out = out; out_after = out'; err = err; err_after = err' }
+streams out out' err err' = record { out = out; out_after = out'; err = err; err_after = err' }
 
 abbrev pub streams_of : World → World → Streams
 streams_of before after = streams before.out after.out before.err after.err

@@ -24,17 +24,15 @@ use Rattle.cli_errors.specs.declared.errors.InputError.{InputError}
 use Rattle.cli_args.specs.Invocations.{Invocation, ScriptRun, ServeArgs, day_of, fair_of, help}
 use Rattle.cli_args.specs.Invocations.{make_of, serve_of, version, watch_of}
 use Rattle.day_run.specs.DayLaws.{IsLink, SentIsBookedAfter}
-use Rattle.day_script.specs.Scripts.{AreClients}
+use Rattle.day_script.specs.Scripts.{AreClients, AreLines}
 use Rattle.day_run.specs.Days.{IsDay, link_of}
 use Rattle.day_run.specs.FairDays.{IsFair}
-use Rattle.day_script.specs.Scripts.{AreLines}
 use Rattle.day_run.specs.declared.media.Source.{Source}
 use Rattle.day_script.specs.declared.scripts.Script.{Script}
 use Rattle.offline_commands.specs.OfflineCommands.{IfTold, IsOutputOf, IsInputRefused, IsRead}
 use Rattle.offline_commands.specs.Days.{AreHeldAs, HoldsScript, IsDayRefused}
 use Rattle.vodserve.specs.WorkerResults.{AreLoaded, IsOpenedOnce, all_reports, opening_of}
-use Rattle.vodserve.specs.WorkerResults.{settings_of}
-use Rattle.vodserve.specs.WorkerResults.{ServerRun, terms_for, server_run}
+use Rattle.vodserve.specs.WorkerResults.{settings_of, ServerRun, terms_for, server_run}
 use Rattle.vodserve.specs.Run.{CommandSpec, HasRunScript, HasServedNothing, ServeSpec}
 use Rattle.vodserve.specs.IoStates.{IoState, Streams, World}
 use Rattle.vodserve.specs.ServerOutput.{IsJournal, served_text}
@@ -183,8 +181,7 @@ IsReceiptIn journal seat (FullReceipt entries live) = ⊤
 
 -- so does each receipt of a connection, whose worker has the seat of the number after its own
 abbrev pub IsReportIn : List Entry → ConnReport → Type 0
-IsReportIn journal report =
-    All (IsReceiptIn journal (report.worker + 1)) report.receipts.items
+IsReportIn journal report = All (IsReceiptIn journal (report.worker + 1)) report.receipts.items
 
 -- unless memory ran out no report names an entry that the journal hasn't
 abbrev pub ReportsMatchJournal : Type 0

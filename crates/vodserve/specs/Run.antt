@@ -12,9 +12,8 @@ use Rattle.admission.specs.declared.entries.Entry.{Entry}
 use Rattle.day_run.specs.declared.media.Source.{Source}
 use Rattle.day_script.specs.declared.scripts.Script.{Script}
 use Rattle.day_run.specs.DayLaws.{IsFairLine, IsLink, SentIsBookedEachTurn}
-use Rattle.day_script.specs.Scripts.{AreClients}
+use Rattle.day_script.specs.Scripts.{AreClients, AreLines}
 use Rattle.day_run.specs.Days.{IsDay, link_of}
-use Rattle.day_script.specs.Scripts.{AreLines}
 use Rattle.day_run.specs.FairDays.{IsFair}
 use Rattle.offline_commands.specs.Days.{AreHeldAs, IsDayInput, IsDayRefused, IsScriptOf}
 use Rattle.rtsp_client.specs.declared.watch_request.Wish.{Wish}
@@ -54,8 +53,7 @@ use Rattle.conn.specs.declared.reports.PartEnd.{PartEnd}
 use Rattle.conn.specs.declared.reports.PartEnd.TheVariants.{GateFault as PartFault}
 use Rattle.vodserve.specs.IoStates.{IoState, Streams, World, streams_of}
 use Rattle.vodserve.specs.WorkerResults.{AreLoaded, HasTooFewParts, IsWorkersResult, IsOpenAs}
-use Rattle.vodserve.specs.WorkerResults.{IsOpenedOnce}
-use Rattle.vodserve.specs.WorkerResults.{server_run}
+use Rattle.vodserve.specs.WorkerResults.{IsOpenedOnce, server_run}
 use Rattle.vodserve.specs.ServerOutput.{IsJournal, IsPrinted, IsServeError, served_text}
 use Rattle.offline_commands.specs.OfflineCommands.{IfTold, IsOutputOf, IsRead, IsInputRefused}
 use Rattle.offline_commands.specs.declared.command_output.CommandOutput.{CommandOutput}

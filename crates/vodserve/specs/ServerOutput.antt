@@ -104,8 +104,7 @@ IsWordNamed word name = setting_value (codes "film") word ≡ Some name
 -- output, which was counted, left a prefix of it; else a part of the gate failed
 abbrev pub IsPrinted : IoState (List ℕ) → IoState (List ℕ) → List ℕ → PartEnd →
     Result (Unit {0}) CliError → Type 0
-IsPrinted out out' text end (Ok done) =
-    (out'.told ≡ told_more out.told text) × (end ≡ AllTaken)
+IsPrinted out out' text end (Ok done) = (out'.told ≡ told_more out.told text) × (end ≡ AllTaken)
 IsPrinted out out' text end (Err SinkFault) =
     HasRisen out.faults out'.faults × IsWrittenPrefix out.told out'.told text × (end ≢ PartNoMemory)
 IsPrinted out out' text end (Err NoMemory) = IsWrittenPrefix out.told out'.told text

@@ -1,6 +1,5 @@
 -- What a reader of the output of a server or a client can learn from it.
-use Rattle.std.specs.Prelude.{ℕ, ◌≡◌, ◌≢◌, List, ◌∷◌, ◌++◌, All}
-use Rattle.std.specs.Prelude.{codes, length}
+use Rattle.std.specs.Prelude.{ℕ, ◌≡◌, ◌≢◌, List, ◌∷◌, ◌++◌, All, codes, length}
 use Rattle.rtsp_client.specs.Meters.{count_over, count_under, most_waiting}
 use Rattle.rtsp_client.specs.ClientHistory.{History, frames, payloads, reports, sizes}
 use Rattle.rtsp_client.specs.declared.watch_request.Wish.{Wish}

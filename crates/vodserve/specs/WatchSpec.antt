@@ -50,8 +50,7 @@ pub record IsWishOf (watching : WatchArgs) (wish : Wish) : Type 0 where
 
 -- how the gate is opened for a client: for one connection to a port of this machine
 abbrev pub opening_at : ℕ → ℕ → Opening
-opening_at port slot =
-    record { port = port; all = false; connections = 1; slot_units = slot }
+opening_at port slot = record { port = port; all = false; connections = 1; slot_units = slot }
 
 -- the line on what the meter read
 abbrev pub watched_text : Watched → List ℕ

@@ -10,8 +10,7 @@ ghost use Rattle.cli_args.specs.Ranges.{AreWatchArgsInRange};
 ghost use Rattle.conn.specs.Parts.{IsUntouched};
 ghost use Rattle.vodserve.specs.Run.{WatchEndSpec, HasServedNothing, PrintsWatched, WatchSpec};
 ghost use Rattle.vodserve.specs.IoStates.{gate_state_of, io_state_of, streams};
-ghost use Rattle.vodserve.specs.WatchSpec.{Hears, HearsPart, IsWishOf, opening_at};
-ghost use Rattle.vodserve.specs.WatchSpec.{refusal_of};
+ghost use Rattle.vodserve.specs.WatchSpec.{Hears, HearsPart, IsWishOf, opening_at, refusal_of};
 ghost use Rattle.vodserve.specs.WorkerResults.{HasTooFewParts, IsOpenAs, IsOpenedOnce};
 
 use crate::meter_line::write_watched;

@@ -1,7 +1,6 @@
 -- Pictures of which each has a slot of its own: what the slots use.
-use Rattle.std.proofs.Common.{◌≡◌, ℕ, ◌+◌, ◌-◌, ◌*◌, ◌/◌, ◌<◌, ◌≤◌, ◌≢◌, cond, eqb, List}
-use Rattle.std.proofs.Common.{length, get_or, sym, ap, ◌∙◌, subst, inl, inr, add-one, arith, zero, suc, [], ◌∷◌, ◌++◌}
-use Rattle.std.proofs.Common.{All, length-append, below_more}
+use Rattle.std.proofs.Common.{◌≡◌, ℕ, ◌+◌, ◌-◌, ◌*◌, ◌/◌, ◌<◌, ◌≤◌, ◌≢◌, cond, eqb, List, length, get_or, sym, ap, ◌∙◌}
+use Rattle.std.proofs.Common.{subst, inl, inr, add-one, arith, zero, suc, [], ◌∷◌, ◌++◌, All, length-append, below_more}
 use Rattle.std.proofs.Math.ListN.{get_or-append}
 use Rattle.std.proofs.lemmas.List.{get_or_push, get_or_default}
 use Rattle.std.proofs.Math.Nat.{mul-div_cancel}
@@ -25,8 +24,7 @@ due_own {timing} own k =
 
 pub slots_own : {timing : Timing} (sizes : List ℕ) → HasOwnSlots timing → 0 < length sizes
     → slot_count sizes timing ≡ timing.delay + length sizes
-slots_own {timing} sizes own some =
-    let last = due_own own (length sizes - 1) in omega (arith, last)
+slots_own {timing} sizes own some = let last = due_own own (length sizes - 1) in omega (arith, last)
 
 -- no picture of the first n is used in slot t
 first_used-none : (sizes : List ℕ) (timing : Timing) (n t : ℕ)

@@ -22,8 +22,7 @@ returns c = λ _. (
             c.index-entries-number.is none)) ∙ found.1.1.0;
       };
       unhalted = record {
-        each =
-            λ i none less. c.loop-entry.invariant i none (omega (arith, less, c.loop-entry-test.false));
+        each = λ i none less. c.loop-entry.invariant i none (omega (arith, less, c.loop-entry-test.false));
       };
       small = found.1.1.1;
     } in

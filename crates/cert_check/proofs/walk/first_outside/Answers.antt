@@ -4,9 +4,8 @@ use Rattle.std.proofs.lemmas.Bool.{both_ways}
 use Rattle.cert_check.specs.CertFaults.{IsAboveUp}
 use Rattle.cert_check.proofs.LineWalkLemmas.{Goes, goes_on, height_at, first_kept, first_found}
 use Rattle.cert_check.proofs.walk.first_outside.Goals as goal
-use Rattle.cert_check.proofs.walk.first_outside.Goals.{After-next_walk-walk}
-use Rattle.cert_check.proofs.walk.first_outside.Goals.{then-is_none+then-height-from-2, else-is_none}
-use Rattle.cert_check.proofs.walk.first_outside.Goals.{else-is_none-via-then-is_none+else-height-from-2}
+use Rattle.cert_check.proofs.walk.first_outside.Goals.{After-next_walk-walk, then-is_none+then-height-from-2}
+use Rattle.cert_check.proofs.walk.first_outside.Goals.{else-is_none, else-is_none-via-then-is_none+else-height-from-2}
 use Rattle.cert_check.proofs.walk.first_outside.Goals.{else-is_none-via-else-is_none}
 
 -- the slot is one of the curves

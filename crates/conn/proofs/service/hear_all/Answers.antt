@@ -80,5 +80,4 @@ returns-clause-counted g c =
     (g.K.Link.faults c.events.link) c.events.invariant.4 refl
 
 pub returns-in-Some-clause-kept : goal.returns-in-Some-clause-kept
-returns-in-Some-clause-kept g c =
-    kept_on c.events.invariant.0 c.hear.ensures.kept
+returns-in-Some-clause-kept g c = kept_on c.events.invariant.0 c.hear.ensures.kept

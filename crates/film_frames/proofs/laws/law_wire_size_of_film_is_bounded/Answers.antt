@@ -7,10 +7,6 @@ use Rattle.film_frames.proofs.laws.law_wire_size_of_film_is_bounded.Goals as goa
 pub returns : goal.returns
 returns c = record {
   range = λ film from count.
-      omega (
-        arith,
-        sum-range (λ u. wire_size film.slice_starts.items u) film.units.items from count,
-        film-bound film,
-      );
+      omega (arith, sum-range (λ u. wire_size film.slice_starts.items u) film.units.items from count, film-bound film);
   all = film-bound;
 }

@@ -1,8 +1,7 @@
 use Rattle.std.proofs.Common.{ℕ, List, ◌++◌, ◌%◌, sym, ap, ◌∙◌}
 use Rattle.film_make.specs.Generator.{words_of}
 use Rattle.film_make.specs.Film.{coding_type, picture_of, picture_words, slice_words}
-use Rattle.film_make.proofs.FilmLemmas.{end_to_end-none, end_to_end-more, picture_words-none}
-use Rattle.film_make.proofs.FilmLemmas.{picture_words-more}
+use Rattle.film_make.proofs.FilmLemmas.{end_to_end-none, end_to_end-more, picture_words-none, picture_words-more}
 use Rattle.film_make.proofs.films.make_pictures.Goals as goal
 
 pub loop-index-init : goal.loop-index-init

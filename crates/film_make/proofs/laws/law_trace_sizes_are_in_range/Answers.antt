@@ -1,5 +1,4 @@
-use Rattle.film_make.proofs.TraceLemmas.{first-range, other-range, each-size, sizes-count}
-use Rattle.film_make.proofs.TraceLemmas.{sizes-front, trace-lines}
+use Rattle.film_make.proofs.TraceLemmas.{first-range, other-range, each-size, sizes-count, sizes-front, trace-lines}
 use Rattle.film_make.proofs.laws.law_trace_sizes_are_in_range.Goals as goal
 
 pub returns : goal.returns

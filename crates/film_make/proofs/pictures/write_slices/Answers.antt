@@ -1,7 +1,6 @@
 use Rattle.std.proofs.Common.{ℕ, ◌++◌, ◌+◌, sym, ap, ◌∙◌}
 use Rattle.film_make.specs.Film.{slice_of, slice_words, after_slice}
-use Rattle.film_make.proofs.FilmLemmas.{none-added, end_to_end-none, part-step, slice_words-none}
-use Rattle.film_make.proofs.FilmLemmas.{slice_words-more}
+use Rattle.film_make.proofs.FilmLemmas.{none-added, end_to_end-none, part-step, slice_words-none, slice_words-more}
 use Rattle.film_make.specs.Generator.{words_left}
 use Rattle.film_make.proofs.pictures.write_slices.Goals as goal
 

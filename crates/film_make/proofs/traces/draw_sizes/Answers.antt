@@ -5,10 +5,7 @@ use Rattle.film_make.proofs.TraceLemmas.{size-step}
 use Rattle.film_make.proofs.traces.draw_sizes.Goals as goal
 
 pub loop-index-init : goal.loop-index-init
-loop-index-init c = record {
-  sizes = c.new-sizes.ensures.items;
-  left = sym (words_after-zero _);
-}
+loop-index-init c = record { sizes = c.new-sizes.ensures.items; left = sym (words_after-zero _) }
 
 pub loop-index-preserved : goal.loop-index-preserved
 loop-index-preserved c = record {

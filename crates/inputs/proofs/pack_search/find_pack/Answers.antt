@@ -1,5 +1,4 @@
-use Rattle.std.proofs.Common.{◌≡◌, ◌∙◌, ◌≤◌, ◌++◌, List, ℕ, None, Some, ap, arith, length, refl}
-use Rattle.std.proofs.Common.{sym, take}
+use Rattle.std.proofs.Common.{◌≡◌, ◌∙◌, ◌≤◌, ◌++◌, List, ℕ, None, Some, ap, arith, length, refl, sym, take}
 use Rattle.std.proofs.lemmas.List.{length-take-le}
 use Rattle.inputs.proofs.PackSearchLemmas.{none_looked, open_plain, opened_by}
 use Rattle.inputs.proofs.ReadLemmas.{chunk_long, file_front, one_file}

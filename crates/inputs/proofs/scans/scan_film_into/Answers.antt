@@ -2,10 +2,9 @@ use Rattle.std.proofs.Common.{◌∙◌, ◌^◌, inl, refl, sym, arith}
 use Rattle.mpeg_scan.specs.declared.faults.FilmFault.TheVariants.{TooLong}
 use Rattle.cli_errors.specs.declared.errors.InputError.TheVariants.{Film}
 use Rattle.inputs.specs.ChunkScans.{IsFilmRefused}
-use Rattle.inputs.proofs.ScanLemmas.{handed_on, heard_on, later_read, never_refused, read_trouble_map}
+use Rattle.inputs.proofs.ScanLemmas.{handed_on, heard_on, later_read, never_refused, read_trouble_map, troubles_on}
 use Rattle.inputs.proofs.LoadLemmas.{size_above}
 use Rattle.inputs.proofs.ReadLemmas.{first_front}
-use Rattle.inputs.proofs.ScanLemmas.{troubles_on}
 use Rattle.inputs.proofs.LibraryLemmas.{then_read}
 use Rattle.inputs.proofs.scans.scan_film_into.Goals as goal
 

@@ -1,9 +1,7 @@
 use Rattle.std.proofs.Common.{◌≤◌, ◌^◌, [], inl, length, refl, arith}
 use Rattle.inputs.specs.ChunkScans.{HasEnded, HasScannedFilm, IsRefusedAtEnd}
 use Rattle.inputs.proofs.RefusalLemmas.{library_call}
-use Rattle.inputs.proofs.ScanLemmas.{film_file, film_troubles, handed_on, none_told, ok_map, plain_holds}
-use Rattle.inputs.proofs.RefusalLemmas.{library_call}
-use Rattle.inputs.proofs.ScanLemmas.{plain_refused}
+use Rattle.inputs.proofs.ScanLemmas.{film_file, film_troubles, handed_on, none_told, ok_map, plain_holds, plain_refused}
 use Rattle.inputs.proofs.scans.scan_plain.Goals as goal
 
 pub feed_film-requires-clause-scanned : goal.feed_film-requires-clause-scanned

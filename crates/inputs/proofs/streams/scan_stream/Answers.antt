@@ -2,8 +2,7 @@ use Rattle.std.proofs.Common.{◌≤◌, ◌^◌, ℕ, List, [], inl, length, su
 use Rattle.sys_demux.specs.SystemStreams.{IsBadStream, IsSystem}
 use Rattle.inputs.specs.ChunkScans.{HasEnded, HasScannedFilm, IsRefusedAtEnd}
 use Rattle.inputs.proofs.RefusalLemmas.{library_call}
-use Rattle.inputs.proofs.ScanLemmas.{film_file, film_troubles, handed_on, none_told, ok_map}
-use Rattle.inputs.proofs.ScanLemmas.{system_trouble}
+use Rattle.inputs.proofs.ScanLemmas.{film_file, film_troubles, handed_on, none_told, ok_map, system_trouble}
 use Rattle.inputs.proofs.StreamLemmas.{first_stream, stream_fault, stream_holds, stream_refused, stream_seen}
 use Rattle.inputs.proofs.streams.scan_stream.Goals as goal
 

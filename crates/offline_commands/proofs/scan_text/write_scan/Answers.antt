@@ -4,8 +4,7 @@ use Rattle.std.proofs.lemmas.List.Elements.{All-nil}
 use Rattle.cli_errors.proofs.StreamWriteLemmas.{said_as}
 use Rattle.offline_commands.specs.ScanText.{unit_lines}
 use Rattle.offline_commands.specs.TextLaws.{IsShortUnit}
-use Rattle.offline_commands.proofs.ScanTextLemmas.{lines-end, lines-more, piece-from, short-more}
-use Rattle.offline_commands.proofs.ScanTextLemmas.{written-by}
+use Rattle.offline_commands.proofs.ScanTextLemmas.{lines-end, lines-more, piece-from, short-more, written-by}
 use Rattle.offline_commands.proofs.scan_text.write_scan.Goals as goal
 
 pub loop-first-init : goal.loop-first-init

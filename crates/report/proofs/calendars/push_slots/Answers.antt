@@ -65,13 +65,7 @@ unfolding booked_slots
 returns c =
     let calendar = c.args.calendar.now in
     let all : c.loop-slot.slot - calendar.first ≡ ring_slots =
-    omega (
-      arith,
-      c.loop-slot-test.false,
-      c.now-now.ensures.value,
-      c.loop-slot.auto.slot,
-      c.loop-slot.auto.slot-end,
-    ) in
+    omega (arith, c.loop-slot-test.false, c.now-now.ensures.value, c.loop-slot.auto.slot, c.loop-slot.auto.slot-end) in
     record {
       whole =
           c.loop-slot.invariant

@@ -9,6 +9,5 @@ returns-clause-read c = record {
   headers = search rules;
   sequence_is = search rules;
   length_is = search rules;
-  body_is =
-      (lengths_of c.requires c.split.ensures).body_is;
+  body_is = (lengths_of c.requires c.split.ensures).body_is;
 }

@@ -9,7 +9,6 @@ returns c =
     asked_in c.args.film.now c.args.paused (record {
       range = range;
       span = c.in_ok-span.span;
-      is_span =
-          c.in_ok-span.ensures;
+      is_span = c.in_ok-span.ensures;
     })
     c.run_in.result c.run_in.ensures

@@ -1,5 +1,4 @@
-use Rattle.sys_demux.proofs.StandardFaultLemmas.{byte_refused, code_refused, end_refused, pack_refused}
-use Rattle.sys_demux.proofs.StandardFaultLemmas.{packet_refused}
+use Rattle.sys_demux.proofs.StandardFaultLemmas.{byte_refused, code_refused, end_refused, pack_refused, packet_refused}
 use Rattle.sys_demux.proofs.laws.law_bad_items_are_refused_at_their_place.Goals as goal
 
 pub returns : goal.returns

@@ -26,8 +26,7 @@ pub returns-clause-chain : goal.returns-clause-chain
 returns-clause-chain c = rw c.in_ok-join.ensures (ready_joins c.loop-side.invariant c.loop-side-test.ensures)
 
 pub loop-side-preserved : goal.loop-side-preserved
-loop-side-preserved c =
-    rw c.pop_last-in-loop-side.ensures (ready_pops c.loop-side.invariant c.loop-side-test.ensures)
+loop-side-preserved c = rw c.pop_last-in-loop-side.ensures (ready_pops c.loop-side.invariant c.loop-side-test.ensures)
 
 abbrev test-of : (c : After-is_passed) → LastTest c.args.side c.point_at-point.result
 test-of c = record {
@@ -95,5 +94,4 @@ new-requires c =
     }
 
 pub push_link-requires : goal.push_link-requires
-push_link-requires c =
-    linked_to_last (c.in-Some.ensures c.args.apex) c.new.ensures.edge
+push_link-requires c = linked_to_last (c.in-Some.ensures c.args.apex) c.new.ensures.edge

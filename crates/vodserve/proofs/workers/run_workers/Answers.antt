@@ -1,7 +1,6 @@
 use Rattle.std.proofs.Common.{◌≡◌, ◌∙◌, List, length, drop, sym, ap, subst, arith}
-use Rattle.std.specs.Prelude.{slice_index_or}
+use Rattle.std.specs.Prelude.{slice_index_or, All}
 use Rattle.std.proofs.lemmas.List.{take_at}
-use Rattle.std.specs.Prelude.{All}
 use Rattle.vodserve.specs.Workers.{AreWorkers, HasFinished, IsWorker}
 use Rattle.vodserve.specs.declared.workers.Worker.{Worker}
 use Rattle.vodserve.proofs.WorkerLemmas.{same_workers}

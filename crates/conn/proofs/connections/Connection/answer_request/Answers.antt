@@ -63,16 +63,13 @@ pub offer-requires-clause-held : goal.offer-requires-clause-held
 offer-requires-clause-held g c = held g (goal.at.offer-requires-clause-held g c).After-drop_front
 
 pub returns-in-Play-clause-kept : goal.returns-in-Play-clause-kept
-returns-in-Play-clause-kept g c =
-    kept g (goal.at.returns-in-Play-clause-kept g c).After-drop_front c.play.ensures.kept
+returns-in-Play-clause-kept g c = kept g (goal.at.returns-in-Play-clause-kept g c).After-drop_front c.play.ensures.kept
 
 pub returns-in-Halt-clause-kept : goal.returns-in-Halt-clause-kept
-returns-in-Halt-clause-kept g c =
-    kept g (goal.at.returns-in-Halt-clause-kept g c).After-drop_front c.halt.ensures.kept
+returns-in-Halt-clause-kept g c = kept g (goal.at.returns-in-Halt-clause-kept g c).After-drop_front c.halt.ensures.kept
 
 pub returns-in-Look-clause-kept : goal.returns-in-Look-clause-kept
-returns-in-Look-clause-kept g c =
-    kept g (goal.at.returns-in-Look-clause-kept g c).After-drop_front c.look.ensures.kept
+returns-in-Look-clause-kept g c = kept g (goal.at.returns-in-Look-clause-kept g c).After-drop_front c.look.ensures.kept
 
 pub returns-in-Offer-clause-kept : goal.returns-in-Offer-clause-kept
 returns-in-Offer-clause-kept g c =

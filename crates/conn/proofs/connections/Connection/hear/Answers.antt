@@ -114,8 +114,7 @@ returns-then-is_err-2-clause-cut g c =
     rw c.in-Slot.is (cuts_same c.args.self.now.input c.step.new.self.input c.step.ensures.input)
 
 pub returns-then-is_err-2-clause-taken : goal.returns-then-is_err-2-clause-taken
-returns-then-is_err-2-clause-taken g c =
-    rw c.in-Slot.is tt
+returns-then-is_err-2-clause-taken g c = rw c.in-Slot.is tt
 
 pub returns-else-is_err-clause-counted : goal.returns-else-is_err-clause-counted
 returns-else-is_err-clause-counted g c = c.process_input.ensures.counted

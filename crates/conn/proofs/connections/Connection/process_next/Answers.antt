@@ -39,10 +39,7 @@ returns-in-Ok-Block g c =
       takes = taken_passed n (inr (channel, first)) (search rules)
           (input_is here (g.K.Link.told c.args.link.now) c.args.seat.now gone);
       cut = cuts_drop (Block channel n) first gone;
-      taken = (
-        c.requires.lost,
-        fewer here.input left n (subst (λ k. 0 < k) (sym first.3) (omega arith)) first.4 gone,
-      );
+      taken = (c.requires.lost, fewer here.input left n (subst (λ k. 0 < k) (sym first.3) (omega arith)) first.4 gone);
       counted = counted_none (g.K.Link.faults c.args.link.now);
     }
 

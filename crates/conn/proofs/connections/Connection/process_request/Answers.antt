@@ -43,12 +43,10 @@ returns-then-waits g c = record {
 }
 
 pub returns-in-Ok-clause-cut : goal.returns-in-Ok-clause-cut
-returns-in-Ok-clause-cut g c =
-    cuts_drop (Request c.args.length) c.requires.first c.answer_request.ensures.input
+returns-in-Ok-clause-cut g c = cuts_drop (Request c.args.length) c.requires.first c.answer_request.ensures.input
 
 pub returns-in-Err-clause-cut : goal.returns-in-Err-clause-cut
-returns-in-Err-clause-cut g c =
-    cuts_drop (Request c.args.length) c.requires.first c.answer_request.ensures.input
+returns-in-Err-clause-cut g c = cuts_drop (Request c.args.length) c.requires.first c.answer_request.ensures.input
 
 pub returns-in-Ok-clause-taken : goal.returns-in-Ok-clause-taken
 returns-in-Ok-clause-taken g c = (

@@ -29,8 +29,7 @@ returns c =
     let its : StandsWithin (capacity_at calendar.steps) calendar (plays_of state) =
     record {
       stands = c.calendar-calendar.ensures.stands;
-      within =
-          subst S (sym c.calendar-calendar.ensures.steps) within;
+      within = subst S (sym c.calendar-calendar.ensures.steps) within;
     } in
     let offer = offer_everywhere its late c.find.ensures.offer in
     let O : List CapStep → Type 0 =

@@ -97,9 +97,7 @@ returns-in-None-clause-line c =
     let step : LineStep = record {
       link = link_on old;
       old = day_state_of old;
-      new = record (day_state_of old) {
-        states = map state_of (set old.clients.items c.args.client c.pause.new.self);
-      };
+      new = record (day_state_of old) { states = map state_of (set old.clients.items c.args.client c.pause.new.self) };
       text = reply_text old.book.entries tolds.State;
     } in
     let same : set old.clients.items c.args.client c.pause.new.self ≡ old.clients.items =

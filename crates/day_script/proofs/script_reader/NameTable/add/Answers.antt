@@ -18,8 +18,5 @@ returns-clause-roster c =
     record {
       good = rw items
           (All-push HasGoodName old last c.requires.roster.good (rw c.in_ok-name.ensures.ok c.requires.good));
-      places = record {
-        films = rw names places.films;
-        traces = rw names places.traces;
-      };
+      places = record { films = rw names places.films; traces = rw names places.traces };
     }

@@ -12,9 +12,8 @@ use Rattle.film_frames.proofs.RunBytesLemmas.{count_ended-is}
 use Rattle.film_frames.proofs.NextBytesLemmas.{InFrame, IsIn, count-among, ends-boundary, frame-part, is-in}
 use Rattle.film_frames.proofs.NextBytesLemmas.{report-rest, rest-next}
 use Rattle.film_frames.proofs.frames.FramesTrack.part.Goals as goal
-use Rattle.film_frames.proofs.frames.FramesTrack.part.Goals.{After-begin_of, After-count_ended-number}
-use Rattle.film_frames.proofs.frames.FramesTrack.part.Goals.{After-payload, After-put_heads}
-use Rattle.film_frames.proofs.frames.FramesTrack.part.Goals.{After-report}
+use Rattle.film_frames.proofs.frames.FramesTrack.part.Goals.{After-begin_of, After-count_ended-number, After-payload}
+use Rattle.film_frames.proofs.frames.FramesTrack.part.Goals.{After-put_heads, After-report}
 
 -- ---- where the place lies
 

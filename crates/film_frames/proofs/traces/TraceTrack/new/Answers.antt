@@ -1,7 +1,6 @@
 use Rattle.std.proofs.Common.{arith, sym, ap, ◌∙◌, subst, List, ℕ, Ok}
 use Rattle.film_frames.specs.Tracks.{AreRunningSums, differences}
-use Rattle.film_frames.proofs.TraceLemmas.{summed-more, running_sums-is, trace-is}
-use Rattle.film_frames.proofs.TraceLemmas.{differences-running_sums}
+use Rattle.film_frames.proofs.TraceLemmas.{summed-more, running_sums-is, trace-is, differences-running_sums}
 use Rattle.film_frames.proofs.traces.TraceTrack.new.Goals as goal
 
 pub overflow_add-end : goal.overflow_add-end

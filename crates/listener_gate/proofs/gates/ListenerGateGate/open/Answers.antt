@@ -4,10 +4,7 @@ use Rattle.listener_gate.proofs.Noting.{gate_told, splits_noted, state_of, view_
 use Rattle.listener_gate.proofs.gates.ListenerGateGate.open.Goals as goal
 
 pub invariant_of-self : goal.invariant_of-self
-invariant_of-self g c = record {
-  within = λ some. omega arith;
-  counted = rw (splits_noted _ _ c.and-self.ensures) refl;
-}
+invariant_of-self g c = record { within = λ some. omega arith; counted = rw (splits_noted _ _ c.and-self.ensures) refl }
 
 pub invariant_of-self-in-Err : goal.invariant_of-self-in-Err
 invariant_of-self-in-Err g c = record {

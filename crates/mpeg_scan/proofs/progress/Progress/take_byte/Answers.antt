@@ -2,10 +2,8 @@ use Rattle.std.proofs.Common.{List, ◌∷◌, subst, sym}
 use Rattle.mpeg_scan.specs.ScannerState.{HasReadBytes}
 use Rattle.std.proofs.lemmas.Result.{on_ok_weaker}
 use Rattle.mpeg_scan.specs.Calls.{Call}
-use Rattle.mpeg_scan.proofs.ScanBoundLemmas.{both-ok, coded-ahead, coded-awaits, noted-ahead}
-use Rattle.mpeg_scan.proofs.ScanBoundLemmas.{noted-awaits, room-before}
-use Rattle.mpeg_scan.proofs.ScanStepLemmas.{code-noted, taken-plain, taken-code, taken-fault}
-use Rattle.mpeg_scan.proofs.ScanStepLemmas.{taken-calls, taken-none}
+use Rattle.mpeg_scan.proofs.ScanBoundLemmas.{both-ok, coded-ahead, coded-awaits, noted-ahead, noted-awaits, room-before}
+use Rattle.mpeg_scan.proofs.ScanStepLemmas.{code-noted, taken-plain, taken-code, taken-fault, taken-calls, taken-none}
 use Rattle.mpeg_scan.proofs.progress.Progress.take_byte.Goals as goal
 
 pub take_code-requires-clause-room : goal.take_code-requires-clause-room

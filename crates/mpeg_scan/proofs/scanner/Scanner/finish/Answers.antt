@@ -11,12 +11,10 @@ use Rattle.mpeg_scan.proofs.PartTilingLemmas.{film-tiles}
 use Rattle.mpeg_scan.proofs.scanner.Scanner.finish.Goals as goal
 
 pub returns-clause-tiled : goal.returns-clause-tiled
-returns-clause-tiled g c =
-    λ r kept. let h = c.in_ok-tally.ensures.accepted r kept.progress in film-tiles r h.0
+returns-clause-tiled g c = λ r kept. let h = c.in_ok-tally.ensures.accepted r kept.progress in film-tiles r h.0
 
 pub returns-clause-numbered : goal.returns-clause-numbered
-returns-clause-numbered g c =
-    λ r kept. let h = c.in_ok-tally.ensures.accepted r kept.progress in film-numbered r h.0
+returns-clause-numbered g c = λ r kept. let h = c.in_ok-tally.ensures.accepted r kept.progress in film-numbered r h.0
 
 pub returns-clause-grammatical : goal.returns-clause-grammatical
 returns-clause-grammatical g c =

@@ -4,12 +4,7 @@ use Rattle.rtsp_client.proofs.ElementSteps.{stopped-on, taken-none, taken-on, ta
 use Rattle.rtsp_client.proofs.clients.Client.process_input.Goals as goal
 
 pub elements-init : goal.elements-init
-elements-init g c = (
-  omega arith,
-  omega arith,
-  omega arith,
-  λ h k. taken-none k refl,
-)
+elements-init g c = (omega arith, omega arith, omega arith, λ h k. taken-none k refl)
 
 pub returns-in_err-more-clause-stopped : goal.returns-in_err-more-clause-stopped
 returns-in_err-more-clause-stopped g c =

@@ -7,8 +7,7 @@ use Rattle.rtsp_client.proofs.ElementSteps.{passed-none}
 use Rattle.rtsp_client.proofs.clients.Client.take_block.Goals as goal
 
 pub returns-in-0-clause-passed : goal.returns-in-0-clause-passed
-returns-in-0-clause-passed g c =
-    rw (c.flow_of.ensures, c.in-0.is) (λ h k. c.take_frame.ensures.passed h k)
+returns-in-0-clause-passed g c = rw (c.flow_of.ensures, c.in-0.is) (λ h k. c.take_frame.ensures.passed h k)
 
 pub returns-in-0-clause-ended : goal.returns-in-0-clause-ended
 returns-in-0-clause-ended g c =

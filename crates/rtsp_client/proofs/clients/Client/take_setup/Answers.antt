@@ -11,8 +11,7 @@ use Rattle.rtsp_client.specs.Requests.{play_text}
 use Rattle.vod_base.proofs.HistoryLemmas.{told_more-nil}
 use Rattle.rtsp_client.proofs.ObservedSteps.{observed-sent, sent-part}
 use Rattle.rtsp_client.proofs.Outcomes.{ok-or-err}
-use Rattle.rtsp_client.proofs.ReplyResults.{SetupReply, first-reply, setup-cut, setup-done, setup-lacks}
-use Rattle.rtsp_client.proofs.ReplyResults.{setup-starved}
+use Rattle.rtsp_client.proofs.ReplyResults.{SetupReply, first-reply, setup-cut, setup-done, setup-lacks, setup-starved}
 use Rattle.rtsp_client.proofs.clients.Client.take_setup.Goals as goal
 use Rattle.rtsp_client.proofs.clients.Client.take_setup.Goals.{After-play_request}
 

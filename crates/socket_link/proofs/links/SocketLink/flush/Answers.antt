@@ -23,8 +23,7 @@ returns-in_err-write-clause-calls g c =
     calls_err c.from_residual.ensures.0 (calls_on c.loop.invariant.round.calls c.in_err-write.ensures.calls)
 
 pub returns-then-is_empty-clause-calls : goal.returns-then-is_empty-clause-calls
-returns-then-is_empty-clause-calls g c =
-    calls_ok (calls_on c.loop.invariant.round.calls c.in_ok-write.ensures.calls)
+returns-then-is_empty-clause-calls g c = calls_ok (calls_on c.loop.invariant.round.calls c.in_ok-write.ensures.calls)
 
 pub returns-then-is_empty-clause-longer : goal.returns-then-is_empty-clause-longer
 returns-then-is_empty-clause-longer g c =

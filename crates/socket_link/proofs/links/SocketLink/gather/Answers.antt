@@ -5,10 +5,7 @@ use Rattle.socket_link.proofs.Steps.{on_err}
 use Rattle.socket_link.proofs.links.SocketLink.gather.Goals as goal
 
 pub loop-init : goal.loop-init
-loop-init g c = record {
-  round = round_first c.args.self.now;
-  part = part_first _;
-}
+loop-init g c = record { round = round_first c.args.self.now; part = part_first _ }
 
 pub returns-then-is_empty-clause-whole : goal.returns-then-is_empty-clause-whole
 returns-then-is_empty-clause-whole g c =

@@ -1,8 +1,7 @@
 use Rattle.std.proofs.Common.{◌∙◌, List, [], ◌∷◌, ◌++◌, ap}
 use Rattle.socket_link.specs.Calls.{SocketCall}
 use Rattle.socket_link.proofs.Orders.{in_order}
-use Rattle.socket_link.proofs.Rounds.{calls_ok, calls_on, history_none, history_on, round_first, round_more}
-use Rattle.socket_link.proofs.Rounds.{round_on}
+use Rattle.socket_link.proofs.Rounds.{calls_ok, calls_on, history_none, history_on, round_first, round_more, round_on}
 use Rattle.socket_link.proofs.Steps.{last_call}
 use Rattle.socket_link.proofs.links.SocketLink.hear.Goals as goal
 

@@ -13,8 +13,7 @@ loop-preserved g c =
     record { round = round_more checked c.in_ok-read_or_wait.ensures.calls }
 
 pub returns-clause-calls : goal.returns-clause-calls
-returns-clause-calls g c =
-    calls_on c.in_ok-check.ensures.calls (round_end c.loop.invariant.round c.loop-test.false)
+returns-clause-calls g c = calls_on c.in_ok-check.ensures.calls (round_end c.loop.invariant.round c.loop-test.false)
 
 pub read_or_wait-requires-clause-fits : goal.read_or_wait-requires-clause-fits
 read_or_wait-requires-clause-fits g c = λ tells. rw (last_call _ _ _ (c.in_ok-check-2.ensures.read tells)) (omega arith)

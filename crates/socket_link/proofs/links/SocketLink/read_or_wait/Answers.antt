@@ -23,8 +23,7 @@ invariant_of-self-clause-follows g c =
     })
 
 pub invariant_of-self-clause-newest : goal.invariant_of-self-clause-newest
-invariant_of-self-clause-newest g c =
-    rw (newest_on _ (HeardBytes _ ∷ []) c.then-self.ensures) c.args.self.now.newest
+invariant_of-self-clause-newest g c = rw (newest_on _ (HeardBytes _ ∷ []) c.then-self.ensures) c.args.self.now.newest
 
 pub returns-in-Ok-Bytes-clause-calls : goal.returns-in-Ok-Bytes-clause-calls
 returns-in-Ok-Bytes-clause-calls g c =

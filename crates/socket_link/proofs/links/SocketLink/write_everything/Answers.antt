@@ -20,8 +20,7 @@ loop-preserved g c =
     }
 
 pub returns-clause-calls : goal.returns-clause-calls
-returns-clause-calls g c =
-    calls_on c.in_ok-check.ensures.calls (round_end c.loop.invariant.round c.loop-test.false)
+returns-clause-calls g c = calls_on c.in_ok-check.ensures.calls (round_end c.loop.invariant.round c.loop-test.false)
 
 pub wait-requires : goal.wait-requires
 wait-requires g c = λ tells. rw (last_call _ _ _ (c.in_ok-check-2.ensures.read tells)) (omega arith)

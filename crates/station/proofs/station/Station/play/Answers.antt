@@ -3,8 +3,7 @@ use Rattle.std.proofs.lemmas.Result.{IfErr-weaker, IfOk-weaker}
 use Rattle.admission.specs.declared.entries.Answer.TheVariants.{Admitted}
 use Rattle.station.specs.Answers.{IsSeatRefused, HasMadeEntry}
 use Rattle.station.specs.Ledgers.{IsEntered, IsPlayRefused, play_of}
-use Rattle.station.proofs.SeatTurns.{Visit, play_longer, visit, visit_made, visit_refused}
-use Rattle.station.proofs.SeatTurns.{visit_same}
+use Rattle.station.proofs.SeatTurns.{Visit, play_longer, visit, visit_made, visit_refused, visit_same}
 use Rattle.station.specs.Inside.{seat_of}
 use Rattle.station.proofs.OpenPlays.{IsOpenFor, visit_open}
 use Rattle.station.proofs.station.Station.play.Goals as goal

@@ -12,8 +12,7 @@ use Rattle.sys_demux.proofs.unwrapper.Unwrapper.feed.Goals as goal
 
 -- an unwrapper's reading in this state
 abbrev reading : Unwrapper → ParserState → List ℕ → List ℕ → Reading
-reading u state seen video =
-    record { state = state; place = u.item; now = u.chosen; seen = seen; video = video }
+reading u state seen video = record { state = state; place = u.item; now = u.chosen; seen = seen; video = video }
 
 pub returns-in-Failed-clause-fault : goal.returns-in-Failed-clause-fault
 returns-in-Failed-clause-fault c = λ seen video was more.

@@ -21,8 +21,7 @@ last g c = let seat = c.take_seat in let closed = c.close_with-closed.ensures.va
     (record {
       state = closed.0;
       rule = closed.1.0;
-      live =
-          record { id = seat.result.id; view = seat.result.me.0; is_live = (closed.1.1, seat.ensures.free.left) };
+      live = record { id = seat.result.id; view = seat.result.me.0; is_live = (closed.1.1, seat.ensures.free.left) };
     })
     (record {
       idle = seat.ensures.free.idle;
