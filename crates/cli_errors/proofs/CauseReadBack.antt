@@ -92,33 +92,10 @@ pub record IsKnown (fault : InputError) : Type 0 where
 
 pub each_is_known : (fault : InputError) → IsKnown fault
 each_is_known NotFound = record { from = refl; word = refl }
-each_is_known (BadTrace n) = record { from = refl; word = refl }
 each_is_known (Curves NoPictures) = record { from = refl; word = refl }
-each_is_known (Curves (TooManySlots n)) = record { from = refl; word = refl }
-each_is_known (Curves (BufferTooSmall slot used least)) = record { from = refl; word = refl }
-each_is_known (BadCert n) = record { from = refl; word = refl }
-each_is_known (BadScript n) = record { from = refl; word = refl }
+each_is_known (Curves _) = record { from = refl; word = refl }
 each_is_known (Film Empty) = record { from = refl; word = refl }
-each_is_known (Film NoSequence) = record { from = refl; word = refl }
-each_is_known (Film (SystemCode n)) = record { from = refl; word = refl }
-each_is_known (Film (Mpeg2 n)) = record { from = refl; word = refl }
-each_is_known (Film (ShortHeader n)) = record { from = refl; word = refl }
-each_is_known (Film (BadRate place code)) = record { from = refl; word = refl }
-each_is_known (Film (BadType n)) = record { from = refl; word = refl }
-each_is_known (Film (PictureWithoutSlices n)) = record { from = refl; word = refl }
-each_is_known (Film (HeadTooLong n)) = record { from = refl; word = refl }
-each_is_known (Film (GroupTooLong n)) = record { from = refl; word = refl }
-each_is_known (Film TooLong) = record { from = refl; word = refl }
-each_is_known (Film (HeadWithoutPicture n)) = record { from = refl; word = refl }
+each_is_known (Film _) = record { from = refl; word = refl }
 each_is_known (System (NotPack n)) = record { from = refl; word = refl }
-each_is_known (System (BadCode n)) = record { from = refl; word = refl }
-each_is_known (System (BadPacket n)) = record { from = refl; word = refl }
-each_is_known (System (Truncated n)) = record { from = refl; word = refl }
-each_is_known FilmTooLarge = record { from = refl; word = refl }
-each_is_known NoConnection = record { from = refl; word = refl }
-each_is_known (RefusedWith n) = record { from = refl; word = refl }
-each_is_known (BadReply n) = record { from = refl; word = refl }
-each_is_known (BadFrame n) = record { from = refl; word = refl }
-each_is_known Framing = record { from = refl; word = refl }
-each_is_known (EndedEarly n) = record { from = refl; word = refl }
-each_is_known TurnsSpent = record { from = refl; word = refl }
+each_is_known (System _) = record { from = refl; word = refl }
+each_is_known _ = record { from = refl; word = refl }

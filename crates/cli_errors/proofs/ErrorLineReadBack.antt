@@ -129,7 +129,6 @@ fault_back fault short =
 
 -- ---- each line
 line_back : (error : CliError) → IsPrintableError error → read_line (error_text error) ≡ error_report_of error
-line_back Usage may = refl
 line_back (Refused name fault) may =
     ap read_line (named_shape name.now (cause_text fault))
     ∙ named_read name.now (cause_text fault) may.0 (no_colon fault may.1) (no_end fault may.1)
@@ -138,10 +137,7 @@ line_back (StoreFault name) may =
     ap read_line (append_assoc (codes "vodserve: ") name.now (codes ": StoreFault\n"))
     ∙ named_read name.now (codes "StoreFault") may (none_is 58 (codes "StoreFault") refl)
     (none_is 10 (codes "StoreFault") refl)
-line_back SinkFault may = refl
-line_back NoMemory may = refl
-line_back GateFault may = refl
-line_back LinkFault may = refl
+line_back _ may = refl
 
 pub message_told : (error error' : CliError) → IsPrintableError error → IsPrintableError error'
     → error_text error ≡ error_text error' → error_report_of error ≡ error_report_of error'

@@ -6,8 +6,8 @@ use Rattle.cli_errors.specs.ReadErrors.{IsReadError}
 use Rattle.cli_errors.specs.ErrorReports.{HasGoodName}
 use Rattle.cli_errors.specs.declared.errors.InputError.{InputError}
 use Rattle.cli_errors.specs.declared.errors.CliError.{CliError}
-use Rattle.cli_errors.specs.declared.errors.CliError.TheVariants.{Usage, Refused, StoreFault, SinkFault}
-use Rattle.cli_errors.specs.declared.errors.CliError.TheVariants.{NoMemory, GateFault, LinkFault}
+use Rattle.cli_errors.specs.declared.errors.CliError.TheVariants.{Refused, StoreFault}
+use Rattle.cli_errors.specs.declared.errors.CliError.TheVariants.{NoMemory}
 
 -- what the error of a call that reads a library may come from: the inputs that it reads, what a
 -- refusal goes with, what the library exposes, and its count of faults before and after
@@ -38,23 +38,16 @@ pub record AreWider (one other : Causes) : Type 0 where
 
 -- an error with one cause has each cause that follows
 pub trouble_map : (one other : Causes) (t : CliError) → AreWider one other → IsTroubleOf one t → IsTroubleOf other t
-trouble_map one other Usage wider h = h
 trouble_map one other (Refused name fault) wider h =
     (wider.reads name.now h.0, λ held is. wider.refuses held name.now fault is h.0 (h.1 held (wider.keeps held is)))
 trouble_map one other (StoreFault name) wider h =
     (wider.reads name.now h.0, λ end. omega (arith, wider.low, wider.high, h.1 (omega (arith, wider.high, end))))
-trouble_map one other SinkFault wider h = h
 trouble_map one other NoMemory wider h = tt
-trouble_map one other GateFault wider h = h
-trouble_map one other LinkFault wider h = h
+trouble_map one other _ wider h = h
 
 -- where the inputs that are read have good names, so has the one that an error names
 pub good_input : (causes : Causes) (t : CliError) → ((name : List ℕ) → causes.Reads name → good_name name ≡ true) →
     IsTroubleOf causes t → HasGoodName t
-good_input causes Usage good h = tt
 good_input causes (Refused name fault) good h = good name.now h.0
 good_input causes (StoreFault name) good h = good name.now h.0
-good_input causes SinkFault good h = tt
-good_input causes NoMemory good h = tt
-good_input causes GateFault good h = tt
-good_input causes LinkFault good h = tt
+good_input causes _ good h = tt

@@ -89,10 +89,7 @@ idle_is w unanswered active time one other =
 
 pub latest_is : (v : Watch) (purpose : Purpose) (time : ℕ) → (clocked v purpose time).latest ≡ time
 latest_is v Accept time = refl
-latest_is v Slot time = refl
-latest_is v Idle time = refl
-latest_is v Patience time = refl
-latest_is v End time = refl
+latest_is v _ time = refl
 
 pub idle-first-send : (before after : List SocketCall) (accept time : ℕ) → All TakesNothing after →
     15 * 10 ^ 9 ≤ time - accept →

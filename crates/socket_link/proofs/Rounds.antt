@@ -93,7 +93,8 @@ module _ {S : Type 0} {G : Ghosts S} where
   }
 
   pub round_on : {A : Type 0} {answer : A} {rounds : ℕ} {old mid new : SocketLink S G} → IsRound rounds old mid →
-      CallsSocket {E = LinkFault} (Ok answer) mid new → (IsTrue G.tells → length (G.did mid.socket) < length (G.did new.socket)) →
+      CallsSocket {E = LinkFault} (Ok answer) mid new →
+      (IsTrue G.tells → length (G.did mid.socket) < length (G.did new.socket)) →
       IsRound (rounds + 1) old new
   round_on {rounds} {old} {mid} {new} r calls longer = record {
     calls = calls_ok (calls_on r.calls calls);

@@ -17,13 +17,15 @@ with_newer (last ∷ earlier) slot falling = elim (cases_Bool (nat_lt last slot)
             (All-weaker (λ s. s < last) (λ s. s < slot) (λ s less. omega (arith, less, later)) earlier falling.0),
         falling,
       )
-  | inr not_newer ↦ subst_to (sym (cond-false (nat_lt last slot) (slot ∷ (last ∷ earlier)) (last ∷ earlier) not_newer)) falling
+  | inr not_newer ↦
+      subst_to (sym (cond-false (nat_lt last slot) (slot ∷ (last ∷ earlier)) (last ∷ earlier) not_newer)) falling
 ]
   where
     subst_to : {xs ys : List ℕ} → xs ≡ ys → AreFalling xs → AreFalling ys
     subst_to same is = subst AreFalling same is
 
-after_call : (units : ℕ) (slots : List ℕ) (call : SocketCall) → AreFalling slots → AreFalling (slots_after units slots call)
+after_call : (units : ℕ) (slots : List ℕ) (call : SocketCall) → AreFalling slots →
+    AreFalling (slots_after units slots call)
 after_call units slots (ReadClock Slot time) is = with_newer slots (slot_of units time) is
 after_call units slots _ is = is
 

@@ -22,9 +22,9 @@ pub fn law_slots_have_their_length()
 {}
 
 /// States when an idle reading of the clock, at `time`, ends a connection. After the last byte that
-/// the peer took, as after the last one that came, 3,600 s must have passed since the reading before
-/// that byte. A peer that took nothing since its accept has 15 s from the accept on, also where it
-/// sends bytes. Times are nanoseconds.
+/// the peer took, as after the last one that came, 3,600 s must have passed since the reading
+/// before that byte. A peer that took nothing since its accept has 15 s from the accept on, also
+/// where it sends bytes. Times are nanoseconds.
 pub fn law_idle_limit_counts_from_last_byte()
     ensures taken { (before quiet : List SocketCall) (purpose : Purpose) (bytes : List ℕ)
         (last time : ℕ) → All IsQuiet quiet →
@@ -46,9 +46,9 @@ pub fn law_idle_limit_counts_from_last_byte()
         ≡ false }
 {}
 
-/// States when a reading of the clock for patience, at `time`, ends a connection: where the peer has
-/// taken none of the bytes that wait for it for 60 s. They count from the first such reading after
-/// the last byte that it took. Times are nanoseconds.
+/// States when a reading of the clock for patience, at `time`, ends a connection: where the peer
+/// has taken none of the bytes that wait for it for 60 s. They count from the first such reading
+/// after the last byte that it took. Times are nanoseconds.
 pub fn law_patience_counts_from_first_write_that_took_nothing()
     ensures { (before between after : List SocketCall) (taken : List ℕ) (first time : ℕ) →
         All IsBeforePatience between → All TakesNothing after →

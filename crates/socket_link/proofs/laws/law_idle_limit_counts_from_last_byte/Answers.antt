@@ -4,7 +4,8 @@ use Rattle.socket_link.specs.declared.sockets.Purpose.TheVariants.{Idle}
 use Rattle.socket_link.specs.Calls.{GaveBytes, ReadClock, TookBytes}
 use Rattle.socket_link.specs.Limits.{clocked, is_overdue, no_watch, watched, watch_of}
 use Rattle.socket_link.proofs.Appends.{watch_of-append}
-use Rattle.socket_link.proofs.LimitTimes.{idle-early, idle-first-send, idle_is, latest_is, quiet_calls, unanswered_after}
+use Rattle.socket_link.proofs.LimitTimes.{idle-early, idle-first-send, idle_is, latest_is, quiet_calls}
+use Rattle.socket_link.proofs.LimitTimes.{unanswered_after}
 use Rattle.socket_link.proofs.laws.law_idle_limit_counts_from_last_byte.Goals as goal
 
 pub returns-clause-taken : goal.returns-clause-taken
