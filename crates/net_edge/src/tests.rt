@@ -26,14 +26,9 @@ const HOW: Opening = Opening {
 };
 
 /// Opens a gate, and returns its port.
-fn open_gate<G: TestGate>(gate: &mut G, how: &Opening) -> Result<u16, Fail> {
-    if gate.open_as(how).is_err() {
-        return Err(Fail::from("the port isn't open"));
-    }
-    match gate.port() {
-        Some(port) => Ok(port),
-        None => Err(Fail::from("no port")),
-    }
+fn open_gate<G: TestGate>(gate: &mut G, how: &Opening) -> Option<u16> {
+    gate.open_as(how).ok()?;
+    gate.port()
 }
 
 /// Whether a value is printed so.
@@ -41,34 +36,14 @@ fn is_printed<T: fmt::Debug>(alloc: Global, value: &T, want: &str) -> bool {
     matches!(format!(in alloc; "{value:?}"), Ok(text) if text.as_str() == want)
 }
 
-/// A part of a gate.
-fn part_of<G: TestGate>(gate: &mut G) -> Result<G, Fail> {
-    match gate.split_off() {
-        Ok(part) => Ok(part),
-        Err(_) => Err(Fail::from("no part")),
-    }
-}
-
 /// The next connection of a gate.
-fn link_of<G: TestGate>(gate: &mut G) -> Result<G::Conn, Fail> {
-    match gate.next_conn() {
-        Ok(Some(link)) => Ok(link),
-        Ok(None) | Err(_) => Err(Fail::from("no connection")),
-    }
+fn link_of<G: TestGate>(gate: &mut G) -> Option<G::Conn> {
+    gate.next_conn().ok()?
 }
 
 /// Whether a gate has no more connections.
 fn gives_none<G: TestGate>(gate: &mut G) -> bool {
     matches!(gate.next_conn(), Ok(None))
-}
-
-/// Fails with a text, unless a condition is true.
-fn expect(condition: bool, otherwise: &str) -> Result<(), Fail> {
-    if condition {
-        Ok(())
-    } else {
-        Err(Fail::from(otherwise))
-    }
 }
 
 /// The slot that comes next, if a slot does.
@@ -79,170 +54,162 @@ fn next_slot<K: Link>(link: &mut K) -> Option<u64> {
     }
 }
 
-/// The next event that is no slot, and how many slots began before it.
-fn next_but_slots<K: Link>(link: &mut K, into: &mut [u8; 8]) -> Result<(Heard, u32), Fail> {
+/// The next event that is no slot, and how many slots began before it, each later than the last.
+fn next_but_slots<K: Link>(link: &mut K, into: &mut [u8; 8]) -> Option<(Heard, u32)> {
     let mut slots = 0u32;
     let mut next = 0;
     for _ in 0..10_000 {
-        match link.next(into) {
-            Ok(Heard::Slot(slot)) => {
-                if slot < next {
-                    return Err(Fail::from("a slot was told twice"));
-                }
+        match link.next(into).ok()? {
+            Heard::Slot(slot) if slot < next => return None,
+            Heard::Slot(slot) => {
                 next = slot.saturating_add(1);
                 slots = slots.saturating_add(1);
             }
-            Ok(heard) => return Ok((heard, slots)),
-            Err(_) => return Err(Fail::from("a fault")),
+            heard => return Some((heard, slots)),
         }
     }
-    Err(Fail::from("slots alone"))
+    None
 }
 
-/// Expects that these bytes come next, except for slots, and returns how many slots came before
-/// them.
-fn hear<K: Link>(link: &mut K, want: &[u8]) -> Result<u32, Fail> {
+/// How many slots came before these bytes, where they come next.
+fn hear<K: Link>(link: &mut K, want: &[u8]) -> Option<u32> {
     let mut into = [0; 8];
     match next_but_slots(link, &mut into)? {
-        (Heard::Bytes(count), slots) if into.get(..count) == Some(want) => Ok(slots),
-        _ => Err(Fail::from("other bytes")),
+        (Heard::Bytes(count), slots) if into.get(..count) == Some(want) => Some(slots),
+        _ => None,
     }
 }
 
 /// Whether the end comes next, except for slots.
-fn hears_end<K: Link>(link: &mut K) -> Result<bool, Fail> {
-    Ok(next_but_slots(link, &mut [0; 8])?.0 == Heard::End)
+fn hears_end<K: Link>(link: &mut K) -> bool {
+    matches!(next_but_slots(link, &mut [0; 8]), Some((Heard::End, _)))
 }
 
-/// Bytes go both ways, and the last ones are still on their way at the end.
-fn speak<K: Link, S: Read + Write>(link: &mut K, client: &mut S) -> Result<(), Fail> {
-    expect(client.write_all(b"abc").is_ok(), "nothing written")?;
-    expect(hear(link, b"abc")? > 0, "no slot")?;
-    let sent = link.send(b"xy").is_ok() && link.send(b"z").is_ok();
-    expect(sent && next_slot(link).is_some(), "no slot at once")?;
+/// Whether bytes go both ways. The last ones are still on their way at the end.
+fn speak<K: Link, S: Read + Write>(link: &mut K, client: &mut S) -> bool {
     let mut came = [0; 3];
-    let is_read = client.read_exact(&mut came).is_ok();
-    expect(is_read && &came == b"xyz", "other bytes came")?;
-    let written = client.write_all(b"more").is_ok();
-    expect(written && link.send(b"last").is_ok(), "nothing sent")
+    client.write_all(b"abc").is_ok()
+        && hear(link, b"abc") > Some(0)
+        && link.send(b"xy").is_ok()
+        && link.send(b"z").is_ok()
+        && next_slot(link).is_some()
+        && client.read_exact(&mut came).is_ok()
+        && &came == b"xyz"
+        && client.write_all(b"more").is_ok()
+        && link.send(b"last").is_ok()
 }
 
 /// The last text that a client receives of a part's connection, which speaks with it before.
-fn last_text<G: TestGate>(
-    alloc: Global,
-    part: &mut G,
-    mut client: TcpStream,
-) -> Result<String, Fail> {
+fn last_text<G: TestGate>(alloc: Global, part: &mut G, mut client: TcpStream) -> Option<String> {
     let mut link = link_of(part)?;
     let printed = "SocketLink { socket: TcpSocket { .. }, .. }";
-    expect(is_printed(alloc, &link, printed), "another text")?;
-    speak(&mut link, &mut client)?;
-    client.shutdown(Shutdown::Write)?;
+    let is_spoken = is_printed(alloc, &link, printed)
+        && speak(&mut link, &mut client)
+        && client.shutdown(Shutdown::Write).is_ok();
     part.end_conn(link);
-    Ok(io::read_to_string(alloc, client)?)
+    if !is_spoken {
+        return None;
+    }
+    io::read_to_string(alloc, client).ok()
 }
 
-/// A connection of a gate's part speaks with its client. The part gives no other, and goes back.
+/// Whether a connection of a gate's part speaks with its client, and the part gives no other.
 fn speaks<R: Net<Stream = TcpStream>, G: TestGate + Drop>(
     rt: &R,
     alloc: Global,
     gate: &mut G,
-) -> Result<(), Fail> {
+) -> Option<bool> {
     let port = open_gate(gate, &HOW)?;
-    let mut part = part_of(gate)?;
-    let client = connect(rt, 1, port)?;
-    let text = last_text(alloc, &mut part, client)?;
-    expect(text.as_str() == "last", "another last text")?;
-    expect(gives_none(&mut part), "another connection")?;
+    let client = connect(rt, 1, port).ok()?;
+    let mut part = gate.split_off().ok()?;
+    let is_last =
+        matches!(last_text(alloc, &mut part, client), Some(text) if text.as_str() == "last");
+    let is_only = gives_none(&mut part);
     gate.join_part(part);
-    Ok(())
+    Some(is_last && is_only)
 }
 
-/// A gate doesn't open at the port of another one, and then gives no part.
-fn refuses_port_of<G: TestGate + Drop>(first: &mut G, second: &mut G) -> Result<(), Fail> {
+/// Whether a gate doesn't open at the port of another one, and then gives no part.
+fn refuses_port_of<G: TestGate + Drop>(first: &mut G, second: &mut G) -> Option<bool> {
     let port = open_gate(first, &HOW)?;
     let is_open = second.open_as(&Opening { port, ..HOW }).is_ok();
-    expect(!is_open, "two gates at a port")?;
-    expect(second.split_off().is_err(), "a part of a closed gate")
+    Some(!is_open && second.split_off().is_err())
 }
 
-/// A link meets a gate's connection: what is sent leaves at its next wait, and comes to the other
-/// end. Then the connection ends.
-fn meet<G: TestGate, N: Link>(gate: &mut G, near: &mut N) -> Result<(), Fail> {
-    let mut far = link_of(gate)?;
-    expect(next_slot(near).is_some(), "no first slot")?;
-    let sent = near.send(b"abc").is_ok();
-    expect(sent && next_slot(near).is_some(), "no second slot")?;
-    hear(&mut far, b"abc")?;
+/// Whether a link meets a gate's connection: what is sent leaves at its next wait, and comes to the
+/// other end. Then the connection ends.
+fn meet<G: TestGate, N: Link>(gate: &mut G, near: &mut N) -> bool {
+    let Some(mut far) = link_of(gate) else {
+        return false;
+    };
+    let is_met = next_slot(near).is_some()
+        && near.send(b"abc").is_ok()
+        && next_slot(near).is_some()
+        && hear(&mut far, b"abc").is_some();
     drop(far);
-    expect(hears_end(near)?, "no end")
+    is_met && hears_end(near)
 }
 
-/// The first of two parts gives a link that meets a gate's connection. The parts give no other.
-fn meet_by_parts<G: TestGate, D: TestGate>(
-    gate: &mut G,
-    first: &mut D,
-    second: &mut D,
-) -> Result<(), Fail> {
-    let mut near = link_of(first)?;
-    expect(
-        gives_none(first) && gives_none(second),
-        "another connection",
-    )?;
-    meet(gate, &mut near)?;
+/// Whether the first of two parts gives a link that meets a gate's connection, and the parts give
+/// no other.
+fn meet_by_parts<G: TestGate, D: TestGate>(gate: &mut G, first: &mut D, second: &mut D) -> bool {
+    let Some(mut near) = link_of(first) else {
+        return false;
+    };
+    let is_met = gives_none(first) && gives_none(second) && meet(gate, &mut near);
     first.end_conn(near);
-    Ok(())
+    is_met
 }
 
-/// A gate that dials meets one that listens at all addresses.
-fn dials<G: TestGate, D: TestGate + Drop>(gate: &mut G, dial: &mut D) -> Result<(), Fail> {
+/// Whether a gate that dials meets one that listens at all addresses.
+fn dials<G: TestGate, D: TestGate + Drop>(gate: &mut G, dial: &mut D) -> Option<bool> {
     let port = open_gate(gate, &Opening { all: true, ..HOW })?;
-    let opened = dial.open_as(&Opening { port, ..HOW });
-    expect(opened.is_ok(), "not connected")?;
-    let mut first = part_of(dial)?;
-    let mut second = part_of(dial)?;
-    meet_by_parts(gate, &mut first, &mut second)?;
+    dial.open_as(&Opening { port, ..HOW }).ok()?;
+    let mut first = dial.split_off().ok()?;
+    let mut second = dial.split_off().ok()?;
+    let is_met = meet_by_parts(gate, &mut first, &mut second);
     dial.join_part(first);
     dial.join_part(second);
-    Ok(())
+    Some(is_met)
 }
 
-/// A gate that dials gives no part before it is open, and finds nobody at the port of a gate that is
-/// closed again.
-fn finds_nobody<G: TestGate + Drop, D: TestGate + Drop>(
-    mut gate: G,
-    dial: &mut D,
-) -> Result<(), Fail> {
-    let port = open_gate(&mut gate, &HOW)?;
+/// Whether a gate that dials gives no part before it is open, and finds nobody at the port of a
+/// gate that is closed again.
+fn finds_nobody<G: TestGate + Drop, D: TestGate + Drop>(mut gate: G, dial: &mut D) -> Option<bool> {
+    let port = open_gate(&mut gate, &HOW);
     drop(gate);
-    let is_open = dial.split_off().is_ok();
-    let is_connected = dial.open_as(&Opening { port, ..HOW }).is_ok();
-    expect(!is_open && !is_connected, "connected to nobody")
+    let opening = Opening { port: port?, ..HOW };
+    Some(dial.split_off().is_err() && dial.open_as(&opening).is_err())
 }
 
 /// Whether a library reads this text at a place of a file, or fails.
 fn reads<L: Library>(library: &mut L, name: &str, at: u64, want: Option<&str>) -> bool {
     let mut into = [0; 4];
-    let count = library.read(name, at, &mut into).ok();
-    let text = count.and_then(|count| into.get(..count));
-    text == want.map(|want| want.as_bytes())
+    match (library.read(name, at, &mut into), want) {
+        (Ok(count), Some(want)) => into.get(..count) == Some(want.as_bytes()),
+        (Err(_), None) => true,
+        _ => false,
+    }
 }
 
-/// A library has `f.txt` with ten digits, and no `g.txt`.
-fn reads_digits<L: Library>(library: &mut L) -> Result<(), Fail> {
-    expect(library.find("f.txt") == Ok(Some(10)), "the size of f.txt")?;
-    expect(library.find("g.txt") == Ok(None), "g.txt was found")?;
-    for (name, at, want) in [
-        ("f.txt", 0, Some("0123")),
-        ("f.txt", 4, Some("4567")),
-        ("f.txt", 8, Some("89")),
-        ("f.txt", 10, Some("")),
-        ("f.txt", 1, Some("1234")),
-        ("g.txt", 0, None),
-    ] {
-        expect(reads(library, name, at, want), "other bytes were read")?;
+/// Places in `f.txt`, which has ten digits, and `g.txt`, which isn't there, and what is read there.
+const READS: &[(&str, u64, Option<&str>)] = &[
+    ("f.txt", 0, Some("0123")),
+    ("f.txt", 4, Some("4567")),
+    ("f.txt", 8, Some("89")),
+    ("f.txt", 10, Some("")),
+    ("f.txt", 1, Some("1234")),
+    ("g.txt", 0, None),
+];
+
+/// Whether a library finds both files so, and reads them.
+fn reads_digits<L: Library>(library: &mut L) -> bool {
+    for (name, at, want) in READS {
+        if !reads(library, name, *at, *want) {
+            return false;
+        }
     }
-    Ok(())
+    library.find("f.txt") == Ok(Some(10)) && library.find("g.txt") == Ok(None)
 }
 
 /// Files are read, and a text is written to one. On a device that is full each write fails.
@@ -251,7 +218,7 @@ fn reads_and_writes_files(rt: HostRuntime) -> Result<(), Fail> {
     fs::write(&rt, "f.txt", "0123456789")?;
     let mut library = FileLibrary::new(&rt, rt.alloc());
     assert!(rt; is_printed(rt.alloc(), &library, "FileLibrary { .. }"));
-    reads_digits(&mut library)?;
+    assert!(rt; reads_digits(&mut library));
     for (name, want) in [("o.txt", Ok(())), ("/dev/full", Err(SinkFault))] {
         let mut sink = OutSink::new(fs::create(&rt, name)?);
         assert!(rt; is_printed(rt.alloc(), &sink, "OutSink { .. }"));
@@ -268,32 +235,35 @@ fn serves_and_dials<R, G, D>(
     gate: &mut G,
     mut second: G,
     dial: &mut D,
-) -> Result<(), Fail>
+) -> [Option<bool>; 8]
 where
     R: Net<Stream = TcpStream> + Clock + Threads + Sync,
-    G: TestGate + fmt::Debug + Send + Drop,
+    G: TestGate + Send + Drop,
     G::Conn: Send,
-    D: TestGate + fmt::Debug + Drop,
+    D: TestGate + Drop,
 {
-    let printed = "ListenerGate { listener: TcpPort { .. }, .. }";
-    expect(is_printed(alloc, gate, printed), "another text")?;
-    expect(is_printed(alloc, dial, "DialGate { .. }"), "another text")?;
-    listens_as_asked(rt, gate)?;
-    refuses_port_of(gate, &mut second)?;
-    finds_nobody(second, dial)?;
-    dials(gate, dial)?;
-    speaks(rt, alloc, gate)?;
-    serves_late_reader(rt, gate)?;
-    has_both_slots(rt, gate)?;
-    ends_with_last_bytes(rt, gate)
+    [
+        listens_as_asked(rt, gate),
+        refuses_port_of(gate, &mut second),
+        finds_nobody(second, dial),
+        dials(gate, dial),
+        speaks(rt, alloc, gate),
+        serves_late_reader(rt, gate),
+        has_both_slots(rt, gate),
+        ends_with_last_bytes(rt, gate),
+    ]
 }
 
 /// One test for all of it: the types of the real gates are long, and the proof of a test repeats
 /// them at each call.
 #[test]
-fn gates_serve_and_dial(rt: HostRuntime) -> Result<(), Fail> {
+fn gates_serve_and_dial(rt: HostRuntime) {
     let mut gate = TcpGate::new(TcpPort::new(&rt, rt.alloc()));
     let second = TcpGate::new(TcpPort::new(&rt, rt.alloc()));
     let mut dial = DialGate::new(&rt, rt.alloc());
-    serves_and_dials(&rt, rt.alloc(), &mut gate, second, &mut dial)
+    let printed = "ListenerGate { listener: TcpPort { .. }, .. }";
+    assert!(rt; is_printed(rt.alloc(), &gate, printed));
+    assert!(rt; is_printed(rt.alloc(), &dial, "DialGate { .. }"));
+    let done = serves_and_dials(&rt, rt.alloc(), &mut gate, second, &mut dial);
+    assert_eq!(rt; done, [Some(true); 8]);
 }
