@@ -173,6 +173,24 @@ module _ (kept : KeptValue) where
     where
       open p use {state as s, rule as r, view as v}
 
+  -- a pass that begins with the number that was given last
+  new_fits : (p : step.Pass kept) → p.view.number ≡ 0
+      → Fits terms (record p.rule.lock { count = p.rule.count + 1 }) (split_view p.view)
+  new_fits p head =
+      let f = step.fits_of kept p in let v = p.view in let count = f.numbers.first head in
+      let none : entries_by (v.splits + 1) p.rule.log ≡ [] = p.rule.makers (v.splits + 1) (omega arith) in record {
+        knows = record {
+          terms_are = (f.terms_are.0, f.terms_are.0);
+          seen = f.seen;
+          told = (v.seen, refl);
+          mine = sym none;
+          own = sym (made_nothing (v.splits + 1) v.seen p.rule.log f.seen none);
+          past = λ k j e. absurd (none_there k j e);
+          numbers = record { few = omega arith; first = λ e. absurd (omega arith); others = λ _. refl };
+        };
+        turn = tt;
+      }
+
   pub splits : (it : Resting) → it.view.number ≡ 0 → it.view.splits + 1 < 2 ^ 32
       → Splits Rule it.id it.view (view_after_split it.view) (split_view it.view)
   unfolding step.changes step.steps
@@ -188,7 +206,6 @@ module _ (kept : KeptValue) where
         tickets = λ o other.
             (step.apart_of kept p o other).0.tickets;
       } in
-      let none : entries_by (v.splits + 1) r.log ≡ [] = r.makers (v.splits + 1) (omega arith) in
       let fresh : (j : ℕ) (u : View) → IsLive views j u → Both x u =
       live_set (λ _ u. Both x u) s.views id w
       (λ _. new_apart v w (λ k j at. let a = (f.past k j at).few in omega arith) (let a = f.numbers.few in omega arith))
@@ -203,20 +220,7 @@ module _ (kept : KeptValue) where
             (let more = total_push pass_count views x in let same = total_set pass_count s.views id v w at in
             let equal : pass_count v ≡ pass_count w = refl in let old = r.passes in omega arith);
         makers = r'.makers;
-        each = live_push (λ _ u. Fits terms r'.lock u) views x
-            record {
-              knows = record {
-                terms_are = (f.terms_are.0, f.terms_are.0);
-                seen = f.seen;
-                told = (v.seen, refl);
-                mine = sym none;
-                own = sym (made_nothing (v.splits + 1) v.seen r.log f.seen none);
-                past = λ k j e. absurd (none_there k j e);
-                numbers = record { few = omega arith; first = λ e. absurd (omega arith); others = λ _. refl };
-              };
-              turn = tt;
-            }
-            r'.each;
+        each = live_push (λ _ u. Fits terms r'.lock u) views x (new_fits p head) r'.each;
         apart = λ i j y z ne ly lz. live_push (λ i y. i ≢ j → Apart y z) views x
             (λ ne. live_push (λ j z. length views ≢ j → Apart x z) views x (λ same. absurd (same refl))
             (λ j z l _. (fresh j z l).0) j z lz ne)

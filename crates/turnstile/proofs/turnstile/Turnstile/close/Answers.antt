@@ -34,17 +34,14 @@ last g c = let seat = c.take_seat in let closed = c.close_with-closed.ensures.va
 pub unwrap-requires : goal.unwrap-requires
 unwrap-requires g c = ap is_some (last g (goal.at.unwrap-requires g c).After-take-slot).slot_is
 
-pub returns-clause-whole : goal.returns-clause-whole
-returns-clause-whole g c =
+pub returns : goal.returns
+returns g c =
     let seat = c.take_seat in
-    let it = last g (goal.at.returns-clause-whole g c).After-take-slot in
+    let it = last g (goal.at.returns g c).After-take-slot in
     let same : c.unwrap.result ≡ it.value = ap (value_or c.unwrap.result) (sym c.unwrap.ensures ∙ it.slot_is) in
-    subst (λ pass. IsWholeList pass (g.B.Kept.entries c.unwrap.result)) (sym seat.ensures.old)
-    (subst (λ x. IsWholeList (state_of_view seat.result.table_id seat.result.me.0) (g.B.Kept.entries x))
-    (sym same) it.whole)
-
-pub returns-clause-terms : goal.returns-clause-terms
-returns-clause-terms g c =
-    let it = last g (goal.at.returns-clause-terms g c).After-take-slot in
-    let same : c.unwrap.result ≡ it.value = ap (value_or c.unwrap.result) (sym c.unwrap.ensures ∙ it.slot_is) in
-    ap g.B.Kept.terms same ∙ (it.terms_are ∙ sym (ap (λ p. p.terms) c.take_seat.ensures.old))
+    record {
+      whole = subst (λ pass. IsWholeList pass (g.B.Kept.entries c.unwrap.result)) (sym seat.ensures.old)
+          (subst (λ x. IsWholeList (state_of_view seat.result.table_id seat.result.me.0) (g.B.Kept.entries x))
+          (sym same) it.whole);
+      terms = ap g.B.Kept.terms same ∙ (it.terms_are ∙ sym (ap (λ p. p.terms) seat.ensures.old));
+    }
