@@ -34,11 +34,9 @@ texts c =
     parts_are c.loop-place.parts c.loop-place.invariant.long
     (λ j inside. c.loop-place.invariant.each j (omega arith))
 
-pub returns-clause-text : goal.returns-clause-text
-returns-clause-text c = parts_text c.loop-place.parts (texts c)
-
-pub returns-clause-line : goal.returns-clause-line
-returns-clause-line c = parts_line c.loop-place.parts (texts c)
-
-pub returns-clause-short : goal.returns-clause-short
-returns-clause-short c = parts_short c.loop-place.parts (texts c)
+pub returns : goal.returns
+returns c = record {
+  text = parts_text c.loop-place.parts (texts c);
+  line = parts_line c.loop-place.parts (texts c);
+  short = parts_short c.loop-place.parts (texts c);
+}
