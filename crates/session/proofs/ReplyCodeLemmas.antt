@@ -20,7 +20,8 @@ use Rattle.session.specs.RefusalOrder.{IsJudged}
 use Rattle.session.specs.SessionStates.{SessionState}
 use Rattle.session.proofs.InitialStateLemmas.{HeardMessage, heard_by}
 use Rattle.session.proofs.RequestUniqueness.{first_sequence_is}
-use Rattle.session.proofs.RequestCaseAnalysis.{asks_as, Answer, Replies, SetsUp, StartsPlay, HaltsPlay, StopsPlay}
+use Rattle.session.proofs.RequestCaseAnalysis.{asked_by, by_answer, made_by, Answer, Replies, SetsUp, StartsPlay}
+use Rattle.session.proofs.RequestCaseAnalysis.{HaltsPlay, StopsPlay}
 use Rattle.session.proofs.RequestCaseAnalysis.{EndsSession, TakesLook, SeeksOffer, OwnReply, ToFault, ToRefused}
 use Rattle.session.proofs.RequestCaseAnalysis.{ToDeclined, answer_to, fault_refuses, may_lack, reply_of}
 
@@ -115,85 +116,63 @@ own_plain h (ToRefused request refusal read judged) =
 own_plain h (ToDeclined request refusal read cause) = refusal_plain (Some request.sequence) refusal []
 own_plain h _ = ok_plain _ _ _
 
--- what is shown of a reply's text
-of_text : {text : List ℕ} (h : HeardMessage) → h.ask ≡ Reply → h.new.text ≡ text → IsNoRefusal text
-    → RefusesNone h.ask h.new
-of_text h reply is refuses = subst (λ a. RefusesNone a h.new) (sym reply) (subst IsNoRefusal (sym is) refuses)
+answer_text : {h : HeardMessage} (answer : Answer h) → RefusesNone (asked_by answer) (made_by answer)
+answer_text {h} (Replies reply is) = own_plain h reply
+answer_text (StartsPlay play planned asks planned_is) = λ rest. plain_front (Some play.taken.request.sequence) _ rest
+answer_text (TakesLook taken look) = tt
+answer_text (SeeksOffer offer planned is asks) = tt
+answer_text _ = ok_plain _ _ _
 
-halt_text : (h : HeardMessage) (sequence keep : ℕ) → h.ask ≡ AskHalt keep
-    → h.new.text ≡ session_text sequence h.old.id → RefusesNone h.ask h.new
-halt_text h sequence keep command is =
-    subst (λ a. RefusesNone a h.new) (sym command) (subst IsNoRefusal (sym is) (ok_plain (Some sequence) _ []))
-
-answer_text : (h : HeardMessage) → Answer h → RefusesNone h.ask h.new
-answer_text h (Replies reply is) = of_text h is.0 (ap (λ (s : SessionState). s.text) is.1) (own_plain h reply)
-answer_text h (SetsUp film taken setup asks is) =
-    of_text h is.0 (ap (λ (s : SessionState). s.text) is.1) (ok_plain (Some taken.request.sequence) _ [])
-answer_text h (StartsPlay play planned asks planned_is) =
-    subst (λ a. RefusesNone a h.new) (sym asks.command)
-    (λ rest. subst (λ (t : List ℕ). IsNoRefusal (t ++ rest)) (sym (ap (λ (s : SessionState). s.text) asks.state))
-    (plain_front (Some play.taken.request.sequence) _ rest))
-answer_text h (HaltsPlay taken hand is) =
-    halt_text h taken.request.sequence is.asks.keep is.asks.command (ap (λ (s : SessionState). s.text) is.asks.state)
-answer_text h (StopsPlay taken hand is) =
-    halt_text h taken.request.sequence is.keep is.command (ap (λ (s : SessionState). s.text) is.state)
-answer_text h (EndsSession taken is) =
-    of_text h is.0 (ap (λ (s : SessionState). s.text) is.1) (ok_plain (Some taken.request.sequence) _ [])
-answer_text h (TakesLook taken look) = subst (λ a. RefusesNone a h.new) (sym look.command) tt
-answer_text h (SeeksOffer offer planned is asks) = subst (λ a. RefusesNone a h.new) (sym asks.command) tt
-
-pub hears_text : (old new : SessionState) (message : List ℕ) (ask : Ask) → Hears old message ask new → RefusesNone ask
-    new
-hears_text old new message ask hears = let h = heard_by hears in answer_text h (answer_to h)
+pub hears_text : (old new : SessionState) (message : List ℕ) (ask : Ask) → Hears old message ask new
+    → RefusesNone ask new
+hears_text old new message ask hears =
+    let answer = answer_to (heard_by hears) in by_answer RefusesNone answer (answer_text answer)
 
 -- memory ran out for a message, as it may
 abbrev RunsOut : HeardMessage → Type 0
 RunsOut h = MayRunOutOfMemory h.old h.message × IsOutOfMemory h.old h.message h.ask h.new
 
-ok_found : (h : HeardMessage) (sequence : Option ℕ) (fields : List Field) (body : List ℕ)
-    → h.new.text ≡ reply_text 200 sequence fields body → HasCode 500 h.new.text → RunsOut h
-ok_found h sequence fields body is code =
-    absurd ((subst IsFound (sym is) (found _ (ok_text_code sequence fields body))).found code)
+ok_found : (sequence : Option ℕ) (fields : List Field) (body : List ℕ) → IsFound (reply_text 200 sequence fields body)
+ok_found sequence fields body = found _ (ok_text_code sequence fields body)
 
 -- a refusal of the code 500 is out of memory
-refused_memory : (h : HeardMessage) (sequence : Option ℕ) (refusal : Refusal) (option : List ℕ)
-    → IsRefused h.old sequence refusal option h.ask h.new → HasCode 500 h.new.text → refusal ≡ Memory
-refused_memory h sequence refusal option is code =
-    let text = refusal_text sequence refusal option in
-    let its = subst (λ (t : List ℕ). HasCode 500 t) (ap (λ (s : SessionState). s.text) is.1) code in
+refused_memory : (sequence : Option ℕ) (refusal : Refusal) (option : List ℕ)
+    → HasCode 500 (refusal_text sequence refusal option) → refusal ≡ Memory
+refused_memory sequence refusal option code =
     let own = own_code refusal in
-    own.memory (one_code text own.small (omega arith) (refusal_code sequence refusal option) its)
+    own.memory (one_code (refusal_text sequence refusal option) own.small (omega arith)
+    (refusal_code sequence refusal option) code)
 
 own_500 : (h : HeardMessage) (reply : OwnReply h) → IsReplied h.old (reply_of h reply) h.ask h.new
-    → HasCode 500 h.new.text → RunsOut h
+    → HasCode 500 (reply_of h reply) → RunsOut h
 own_500 h (ToFault fault is_fault) is code =
-    absurd (fault_refuses fault (refused_memory h (first_sequence h.message) (fault_refusal fault) [] is code))
+    absurd (fault_refuses fault (refused_memory (first_sequence h.message) (fault_refusal fault) [] code))
 own_500 h (ToRefused request refusal read judged) is code =
-    let memory : refusal ≡ Memory =
-    refused_memory h (Some request.sequence) refusal (option_of request.head.now) is code in
+    let memory = refused_memory (Some request.sequence) refusal (option_of request.head.now) code in
     absurd (subst (λ r. IsJudged h.old.films h.old.id h.old.state request (Err r)) memory judged)
 own_500 h (ToDeclined request refusal read cause) is code =
-    let memory : refusal ≡ Memory = refused_memory h (Some request.sequence) refusal [] is code in (
+    let memory = refused_memory (Some request.sequence) refusal [] code in (
       may_lack cause memory,
       subst (λ n. IsRefused h.old n Memory [] h.ask h.new)
           (sym (first_sequence_is h.message request.sequence read.sequence_is))
           (subst (λ r. IsRefused h.old (Some request.sequence) r [] h.ask h.new) memory is),
     )
-own_500 h _ is code = ok_found h _ _ _ (ap (λ (s : SessionState). s.text) is.1) code
+own_500 h reply is code = let its : IsFound (reply_of h reply) = ok_found _ _ _ in absurd (its.found code)
 
 -- a reply of 500 is that to a message for which memory is wanting, as it may be for it
-answer_500 : (h : HeardMessage) → h.ask ≡ Reply → HasCode 500 h.new.text → Answer h → RunsOut h
-answer_500 h reply code (Replies own is) = own_500 h own is code
-answer_500 h reply code (SetsUp film taken setup asks is) =
-    ok_found h (Some taken.request.sequence) _ [] (ap (λ (s : SessionState). s.text) is.1) code
-answer_500 h reply code (EndsSession taken is) =
-    ok_found h (Some taken.request.sequence) _ [] (ap (λ (s : SessionState). s.text) is.1) code
-answer_500 h reply code answer = absurd (let no : ⊥ = cc (asks_as answer, reply) in no)
+answer_500 : {h : HeardMessage} (answer : Answer h) → Is500 (asked_by answer) (made_by answer) → RunsOut h
+answer_500 {h} (Replies own is) code = own_500 h own is code
+answer_500 (SetsUp film taken setup asks is) code =
+    let its : IsFound (made_by (SetsUp film taken setup asks is)).text = ok_found _ _ _ in absurd (its.found code)
+answer_500 (EndsSession taken is) code =
+    let its : IsFound (made_by (EndsSession taken is)).text = ok_found _ _ _ in absurd (its.found code)
+answer_500 _ code = absurd code
 
 hears_wanting : (old new : SessionState) (message : List ℕ) (ask : Ask) → Hears old message ask new → Is500 ask new
     → MayRunOutOfMemory old message × IsOutOfMemory old message ask new
-hears_wanting old new message Reply hears code = answer_500 (heard_by hears) refl code (answer_to (heard_by hears))
-hears_wanting old new message _ hears code = absurd code
+hears_wanting old new message ask hears =
+    let answer = answer_to (heard_by hears) in
+    by_answer (λ a s. Is500 a s → RunsOut (heard_by hears)) answer (answer_500 answer)
 
 pub hears_500 : (old new : SessionState) (message : List ℕ) (ask : Ask) → Hears old message ask new → Is500 ask new
     → IsOutOfMemory old message ask new
@@ -204,25 +183,18 @@ pub hears_may : (old new : SessionState) (message : List ℕ) (ask : Ask) → He
 hears_may old new message ask hears code = (hears_wanting old new message ask hears code).0
 
 -- a request that begins a play at the station did not run out of memory
-answer_never : (h : HeardMessage) → Answer h → NeverLacks h.ask h.new
-answer_never h (Replies reply is) = subst (λ a. NeverLacks a h.new) (sym is.0) tt
-answer_never h (SetsUp film taken setup asks is) = subst (λ a. NeverLacks a h.new) (sym is.0) tt
-answer_never h (StartsPlay play planned asks planned_is) =
-    subst (λ a. NeverLacks a h.new) (sym asks.command)
-    (λ rest. (subst (λ (t : List ℕ). IsFound (t ++ rest)) (sym (ap (λ (s : SessionState). s.text) asks.state))
-    (found _ (ok_code (Some play.taken.request.sequence) _ rest))).found)
-answer_never h (HaltsPlay taken hand is) =
-    subst (λ a. NeverLacks a h.new) (sym is.asks.command)
-    (subst IsFound (sym (ap (λ (s : SessionState). s.text) is.asks.state))
-    (found _ (ok_text_code (Some taken.request.sequence) _ []))).found
-answer_never h (StopsPlay taken hand is) =
-    subst (λ a. NeverLacks a h.new) (sym is.command)
-    (subst IsFound (sym (ap (λ (s : SessionState). s.text) is.state))
-    (found _ (ok_text_code (Some taken.request.sequence) _ []))).found
-answer_never h (EndsSession taken is) = subst (λ a. NeverLacks a h.new) (sym is.0) tt
-answer_never h (TakesLook taken look) = subst (λ a. NeverLacks a h.new) (sym look.command) tt
-answer_never h (SeeksOffer offer planned is asks) = subst (λ a. NeverLacks a h.new) (sym asks.command) tt
+answer_never : {h : HeardMessage} (answer : Answer h) → NeverLacks (asked_by answer) (made_by answer)
+answer_never (StartsPlay play planned asks planned_is) = λ rest.
+    let its : IsFound ((made_by (StartsPlay play planned asks planned_is)).text ++ rest) =
+    found _ (ok_code (Some play.taken.request.sequence) _ rest) in
+    its.found
+answer_never (HaltsPlay taken hand is) =
+    let its : IsFound (made_by (HaltsPlay taken hand is)).text = ok_found _ _ _ in its.found
+answer_never (StopsPlay taken hand is) =
+    let its : IsFound (made_by (StopsPlay taken hand is)).text = ok_found _ _ _ in its.found
+answer_never _ = tt
 
-pub hears_never : (old new : SessionState) (message : List ℕ) (ask : Ask) → Hears old message ask new → NeverLacks ask
-    new
-hears_never old new message ask hears = let h = heard_by hears in answer_never h (answer_to h)
+pub hears_never : (old new : SessionState) (message : List ℕ) (ask : Ask) → Hears old message ask new
+    → NeverLacks ask new
+hears_never old new message ask hears =
+    let answer = answer_to (heard_by hears) in by_answer NeverLacks answer (answer_never answer)

@@ -1,6 +1,6 @@
 -- What a session answers to a message: the one analysis of it by cases, above which the laws stand.
 use Rattle.std.proofs.Common.{◌≡◌, ◌≢◌, ℕ, ◌<◌, ◌≤◌, ◌⊎◌, false, List, [], length, Option, Some, None, Result, Ok, Err}
-use Rattle.std.proofs.Common.{codes, string_bytes, refl, sym, subst, inl, inr, arith}
+use Rattle.std.proofs.Common.{◌-◌, true, codes, string_bytes, refl, sym, subst, inl, inr, arith}
 use Rattle.std.proofs.lemmas.Option.{slice_get_within}
 use Rattle.film_frames.specs.declared.stored_films.Stored.{Stored}
 use Rattle.film_run.specs.declared.runs.Run.{Run}
@@ -17,7 +17,7 @@ use Rattle.rtsp_methods.specs.declared.topics.Topic.TheVariants.{Nothing as NoTo
 use Rattle.rtsp_methods.specs.declared.topics.Topic.TheVariants.{Unknown}
 use Rattle.rtsp_methods.specs.declared.refusals.Refusal.{Refusal}
 use Rattle.rtsp_methods.specs.declared.refusals.Refusal.TheVariants.{Session, State as NotNow, Parameter, Memory}
-use Rattle.rtsp_replies.specs.Replies.{describe_text, plain_text, public_text, refusal_text, session_text}
+use Rattle.rtsp_replies.specs.Replies.{describe_text, plain_text, public_text, refusal_text, session_text, setup_text}
 use Rattle.film_streams.specs.Films.{IsFilmAt, length_ms}
 use Rattle.film_streams.specs.SettingRanges.{AreSettings, IsSetup}
 use Rattle.film_streams.specs.Setups.{AsksForSetup, IsChosen, IsSetupRead}
@@ -31,16 +31,18 @@ use Rattle.session.specs.declared.refusals.Task.{Task}
 use Rattle.session.specs.declared.refusals.Task.TheVariants.{Options as ToOptions, Describe as ToDescribe}
 use Rattle.session.specs.declared.refusals.Task.TheVariants.{Setup as ToSetup, Play as ToPlay, Pause as ToPause}
 use Rattle.session.specs.declared.refusals.Task.TheVariants.{Teardown as ToTeardown, GetParameter as ToGetParameter}
-use Rattle.session.specs.declared.states.AfterHalt.TheVariants.{Torn}
+use Rattle.session.specs.declared.states.AfterHalt.{AfterHalt}
+use Rattle.session.specs.declared.states.AfterHalt.TheVariants.{Paused, Torn}
+use Rattle.session.specs.declared.states.Awaited.TheVariants.{Play, Halt, Look, Offer}
 use Rattle.session.specs.declared.states.State.{State}
 use Rattle.session.specs.declared.states.State.TheVariants.{Init, Ready, Playing}
 use Rattle.session.specs.Laws.{IsTeardown, MayRunOutOfMemory}
 use Rattle.session.specs.Methods.{AsksHalt, AsksLook, AsksOffer, AsksOfferOr, AsksPlay, AsksPlayOr, Ends, Gets}
 use Rattle.session.specs.Methods.{GetsOffer, HasWait, IsReplied, IsSetUp, Looks, Pauses, PausesPlay, Plays, Takes}
-use Rattle.session.specs.Methods.{TearsDown, play_call}
+use Rattle.session.specs.Methods.{TearsDown, play_call, play_front, prepared_of}
 use Rattle.session.specs.RefusalOrder.{IsJudged, IsReadAs, IsTaken}
 use Rattle.session.specs.RequestedPlans.{IsPlanned, IsPlannedRun}
-use Rattle.session.specs.SessionStates.{IsReadyIn, SessionState, has_session_in}
+use Rattle.session.specs.SessionStates.{IsReadyIn, SessionState, has_session_in, with_reply}
 use Rattle.session.proofs.InitialStateLemmas.{HeardMessage, PlayInHand}
 use Rattle.session.proofs.ResumedPlayLemmas.{of_film}
 
@@ -258,7 +260,7 @@ answer_to h = elim h.hears [
 -- ---- what an answer says
 
 -- what it asks of the station
-abbrev asked_by : {h : HeardMessage} → Answer h → Ask
+abbrev pub asked_by : {h : HeardMessage} → Answer h → Ask
 asked_by (StartsPlay play planned asks planned_is) = AskPlay planned.plan
 asked_by (HaltsPlay taken hand is) = AskHalt is.asks.keep
 asked_by (StopsPlay taken hand is) = AskHalt is.keep
@@ -275,6 +277,50 @@ asks_as (StopsPlay taken hand is) = is.command
 asks_as (EndsSession taken is) = is.0
 asks_as (TakesLook taken look) = look.command
 asks_as (SeeksOffer offer planned is asks) = asks.command
+
+-- a play that is halted: no more of it becomes due than what is kept
+abbrev pub halting : {old : SessionState} → PlayInHand old → ℕ → AfterHalt → ℕ → SessionState
+halting {old} hand keep next sequence = record old {
+  state = Playing hand.setup (record hand.play { pacer = record hand.play.pacer { keep = keep } });
+  awaited = Halt keep next;
+  text = session_text sequence old.id;
+}
+
+-- the session that it leaves
+abbrev pub made_by : {h : HeardMessage} → Answer h → SessionState
+made_by {h} (Replies reply is) = with_reply h.old (reply_of h reply)
+made_by {h} (SetsUp film taken setup asks is) =
+    record (with_reply h.old
+    (setup_text taken.request.sequence setup.media setup.control h.old.source.ssrc h.old.id)) {
+      state = Ready setup None;
+    }
+made_by {h} (StartsPlay play planned asks planned_is) = record h.old {
+  awaited = Play (prepared_of h.old asks.stored play.setup planned play.taken.request.sequence);
+  text = play_front h.old asks.stored play.setup planned play.taken.request.sequence play.asked.authority.now;
+}
+made_by (HaltsPlay taken hand is) = halting hand is.asks.keep (Paused is.left) taken.request.sequence
+made_by (StopsPlay taken hand is) = halting hand is.keep Torn taken.request.sequence
+made_by {h} (EndsSession taken is) =
+    record (with_reply h.old (session_text taken.request.sequence h.old.id)) { tearing = true }
+made_by {h} (TakesLook taken look) =
+    record h.old { looks_left = h.old.looks_left - 1; awaited = Look taken.request.sequence }
+made_by {h} (SeeksOffer offer planned is asks) = record h.old { awaited = Offer offer.taken.request.sequence }
+
+made_as : {h : HeardMessage} (answer : Answer h) → h.new ≡ made_by answer
+made_as (Replies reply is) = is.1
+made_as (SetsUp film taken setup asks is) = is.1
+made_as (StartsPlay play planned asks planned_is) = asks.state
+made_as (HaltsPlay taken hand is) = is.asks.state
+made_as (StopsPlay taken hand is) = is.state
+made_as (EndsSession taken is) = is.1
+made_as (TakesLook taken look) = look.state
+made_as (SeeksOffer offer planned is asks) = asks.state
+
+-- what is true for what an answer asks for and leaves, is true for the message
+pub by_answer : {h : HeardMessage} (P : Ask → SessionState → Type 0) (answer : Answer h)
+    → P (asked_by answer) (made_by answer) → P h.ask h.new
+by_answer {h} P answer is =
+    subst (λ a. P a h.new) (sym (asks_as answer)) (subst (P (asked_by answer)) (sym (made_as answer)) is)
 
 pub is_memory : (refusal : Refusal) → (refusal ≡ Memory) ⊎ (refusal ≢ Memory)
 is_memory Memory = inl refl

@@ -11,7 +11,8 @@ use Rattle.session.specs.declared.refusals.Task.TheVariants.{Play as ToPlay}
 use Rattle.session.specs.declared.states.AfterHalt.{AfterHalt}
 use Rattle.session.specs.declared.states.State.{State}
 use Rattle.session.specs.RequestEffects.{AsksOrLacks, AwaitsNoStop, CanBePlayed, ChangesState, IsGoodPlay}
-use Rattle.session.specs.RequestEffects.{IsPlayAskedFor, IsSameContext}
+use Rattle.session.specs.RequestEffects.{IsHaltAsked, IsPlayAskedFor, IsSameContext}
+use Rattle.pacer.specs.PacerStates.{next_boundary}
 use Rattle.session.specs.RequestSteps.{Hears}
 use Rattle.session.specs.RefusalOrder.{IsJudged}
 use Rattle.session.specs.Laws.{AsksNoHalt}
@@ -21,26 +22,20 @@ use Rattle.session.specs.SessionStates.{SessionState}
 use Rattle.session.proofs.InitialStateLemmas.{HeardMessage, PlayInHand, heard_by}
 use Rattle.session.proofs.ResumedPlayLemmas.{of_film}
 use Rattle.session.proofs.RequestCaseAnalysis.{Answer, Replies, SetsUp, StartsPlay, HaltsPlay, StopsPlay, EndsSession}
-use Rattle.session.proofs.RequestCaseAnalysis.{InReady, ReadyPlay, TakenTask, TakesLook, SeeksOffer, answer_to, is_memory}
-use Rattle.session.proofs.RequestCaseAnalysis.{settled_ranges}
+use Rattle.session.proofs.RequestCaseAnalysis.{InReady, ReadyPlay, TakenTask, TakesLook, SeeksOffer, answer_to}
+use Rattle.session.proofs.RequestCaseAnalysis.{asked_by, by_answer, halting, is_memory, made_by, settled_ranges}
 
-abbrev pub Changes : Ask → SessionState → SessionState → Type 0
-Changes ask old new = IsSameContext old new × ChangesState ask old new
+-- what a request leaves as it was
+same_context : {h : HeardMessage} (answer : Answer h) → IsSameContext h.old (made_by answer)
+same_context (Replies reply is) = assumption
+same_context _ = assumption
 
--- a session that is made of the old one, and what was asked for
-changed : {made : SessionState} {asked : Ask} (h : HeardMessage) → (h.ask ≡ asked) × (h.new ≡ made)
-    → IsSameContext h.old made → ChangesState asked h.old h.new → Changes h.ask h.old h.new
-changed h is same state =
-    subst (λ a. Changes a h.old h.new) (sym is.0) (subst (IsSameContext h.old) (sym is.1) same, state)
-
-state_of : {new made : SessionState} → new ≡ made → new.state ≡ made.state
-state_of is = ap (λ (s : SessionState). s.state) is
-
-play_asked : {planned : Planned} (h : HeardMessage) (play : ReadyPlay h)
+play_asked : {planned : Planned} {h : HeardMessage} (play : ReadyPlay h)
     (asks : AsksPlay h.old play.taken.request.sequence play.asked.authority.now play.setup planned h.ask h.new)
-    → IsPlannedRun h.old asks.stored play.setup play.paused
-    (header_value play.taken.request.head.now (codes "Range")) planned → IsPlayAskedFor h.old (AskPlay planned.plan) h.new
-play_asked {planned} h play asks planned_is = record {
+    (planned_is : IsPlannedRun h.old asks.stored play.setup play.paused
+    (header_value play.taken.request.head.now (codes "Range")) planned)
+    → IsPlayAskedFor h.old (AskPlay planned.plan) (made_by (StartsPlay play planned asks planned_is))
+play_asked {planned} play asks planned_is = record {
   play = record {
     setup = play.setup;
     paused = play.paused;
@@ -51,81 +46,61 @@ play_asked {planned} h play asks planned_is = record {
     authority = play.asked.authority.now;
     ready = play.ready;
     planned_is = planned_is;
-    awaited = ap (λ (s : SessionState). s.awaited) asks.state;
-    text = ap (λ (s : SessionState). s.text) asks.state;
+    awaited = refl;
+    text = refl;
   };
   command = refl;
 }
 
 -- a halt that is asked for
-halt_changes : {sequence : ℕ} {next : AfterHalt} (h : HeardMessage) (hand : PlayInHand h.old)
-    → AsksHalt h.old sequence hand.setup hand.play next h.ask h.new → Changes h.ask h.old h.new
-halt_changes {next} h hand is =
-    changed h (is.command, is.state)
-    (record { films = refl; settings = refl; numbers = record { source = refl; counts = refl }; heard = refl; plays = refl })
-    (record {
-      setup = hand.setup;
-      play = hand.play;
-      keep = is.keep;
-      next = next;
-      was = hand.playing;
-      keep_is = is.keep_is;
-      now = state_of is.state;
-      awaited = ap (λ (s : SessionState). s.awaited) is.state;
-    })
+halt_asked : {old : SessionState} {keep : ℕ} {next : AfterHalt} (hand : PlayInHand old) (sequence : ℕ)
+    → keep ≡ next_boundary hand.play.pacer → IsHaltAsked old (halting hand keep next sequence)
+halt_asked {keep} {next} hand sequence keep_is = record {
+  setup = hand.setup;
+  play = hand.play;
+  keep = keep;
+  next = next;
+  was = hand.playing;
+  keep_is = keep_is;
+  now = refl;
+  awaited = refl;
+}
 
-answer_changes : (h : HeardMessage) → Answer h → Changes h.ask h.old h.new
-answer_changes h (Replies reply is) =
-    changed h is
-    (record { films = refl; settings = refl; numbers = record { source = refl; counts = refl }; heard = refl; plays = refl })
-    (inl (state_of is.1))
-answer_changes h (SetsUp film taken setup asks is) =
-    changed h is
-    (record { films = refl; settings = refl; numbers = record { source = refl; counts = refl }; heard = refl; plays = refl })
-    (inr (record { setup = setup; state = state_of is.1; ranges = settled_ranges taken asks }))
-answer_changes h (StartsPlay play planned asks planned_is) =
-    changed h (asks.command, asks.state)
-    (record { films = refl; settings = refl; numbers = record { source = refl; counts = refl }; heard = refl; plays = refl })
-    (state_of asks.state, play_asked h play asks planned_is)
-answer_changes h (HaltsPlay taken hand is) = halt_changes h hand is.asks
-answer_changes h (StopsPlay taken hand is) = halt_changes h hand is
-answer_changes h (EndsSession taken is) =
-    changed h is
-    (record { films = refl; settings = refl; numbers = record { source = refl; counts = refl }; heard = refl; plays = refl })
-    (inl (state_of is.1))
-answer_changes h (TakesLook taken look) =
-    changed h (look.command, look.state)
-    (record { films = refl; settings = refl; numbers = record { source = refl; counts = refl }; heard = refl; plays = refl })
-    (state_of look.state)
-answer_changes h (SeeksOffer offer planned is asks) =
-    changed h (asks.command, asks.state)
-    (record { films = refl; settings = refl; numbers = record { source = refl; counts = refl }; heard = refl; plays = refl })
-    (state_of asks.state)
+answer_changes : {h : HeardMessage} (answer : Answer h) → ChangesState (asked_by answer) h.old (made_by answer)
+answer_changes (SetsUp film taken setup asks is) =
+    inr (record { setup = setup; state = refl; ranges = settled_ranges taken asks })
+answer_changes (StartsPlay play planned asks planned_is) = (refl, play_asked play asks planned_is)
+answer_changes (HaltsPlay taken hand is) = halt_asked hand taken.request.sequence is.asks.keep_is
+answer_changes (StopsPlay taken hand is) = halt_asked hand taken.request.sequence is.keep_is
+answer_changes (TakesLook taken look) = refl
+answer_changes (SeeksOffer offer planned is asks) = refl
+answer_changes _ = inl refl
 
 pub hears_ground : (old new : SessionState) (message : List ℕ) (ask : Ask) → Hears old message ask new
     → IsSameContext old new
-hears_ground old new message ask hears = (answer_changes (heard_by hears) (answer_to (heard_by hears))).0
+hears_ground old new message ask hears =
+    let answer = answer_to (heard_by hears) in by_answer (λ a s. IsSameContext old s) answer (same_context answer)
 
 pub hears_state : (old new : SessionState) (message : List ℕ) (ask : Ask) → Hears old message ask new
     → ChangesState ask old new
-hears_state old new message ask hears = (answer_changes (heard_by hears) (answer_to (heard_by hears))).1
+hears_state old new message ask hears =
+    let answer = answer_to (heard_by hears) in by_answer (λ a s. ChangesState a old s) answer (answer_changes answer)
 
 -- a PAUSE or a TEARDOWN waits for no halt but the one that it asks for
-answer_unstopped : (h : HeardMessage) → AsksNoHalt h.ask → AwaitsNoStop h.old → Answer h → AwaitsNoStop h.new
-answer_unstopped h free none (Replies reply is) = subst AwaitsNoStop (sym is.1) none
-answer_unstopped h free none (SetsUp film taken setup asks is) = subst AwaitsNoStop (sym is.1) none
-answer_unstopped h free none (StartsPlay play planned asks planned_is) = subst AwaitsNoStop (sym asks.state) refl
-answer_unstopped h free none (HaltsPlay taken hand is) = absurd (subst AsksNoHalt is.asks.command free)
-answer_unstopped h free none (StopsPlay taken hand is) = absurd (subst AsksNoHalt is.command free)
-answer_unstopped h free none (EndsSession taken is) = subst AwaitsNoStop (sym is.1) none
-answer_unstopped h free none (TakesLook taken look) = subst AwaitsNoStop (sym look.state) refl
-answer_unstopped h free none (SeeksOffer offer planned is asks) = subst AwaitsNoStop (sym asks.state) refl
+answer_unstopped : {h : HeardMessage} (answer : Answer h) → AsksNoHalt (asked_by answer) → AwaitsNoStop h.old
+    → AwaitsNoStop (made_by answer)
+answer_unstopped (StartsPlay play planned asks planned_is) free none = refl
+answer_unstopped (HaltsPlay taken hand is) free none = absurd free
+answer_unstopped (StopsPlay taken hand is) free none = absurd free
+answer_unstopped (TakesLook taken look) free none = refl
+answer_unstopped (SeeksOffer offer planned is asks) free none = refl
+answer_unstopped _ free none = none
 
-pub hears_unstopped : (old new : SessionState) (message : List ℕ) (ask : Ask) → Hears old message ask new → AsksNoHalt
-    ask
-    → AwaitsNoStop old → AwaitsNoStop new
-hears_unstopped old new message ask hears free none =
-    answer_unstopped (heard_by hears) free none (answer_to (heard_by hears))
+pub hears_unstopped : (old new : SessionState) (message : List ℕ) (ask : Ask) → Hears old message ask new
+    → AsksNoHalt ask → AwaitsNoStop old → AwaitsNoStop new
+hears_unstopped old new message ask hears =
+    let answer = answer_to (heard_by hears) in
+    by_answer (λ a s. AsksNoHalt a → AwaitsNoStop old → AwaitsNoStop s) answer (answer_unstopped answer)
 
 good_starts : (h : HeardMessage) (play : ReadyPlay h) → IsGoodPlay h.old play.setup play.paused play.taken.request
     → (planned : Result Planned Refusal)
@@ -134,9 +109,9 @@ good_starts : (h : HeardMessage) (play : ReadyPlay h) → IsGoodPlay h.old play.
     → AsksOrLacks h.old h.ask h.new
 good_starts h play good (Ok planned) is (inl asks) =
     let range = header_value play.taken.request.head.now (codes "Range") in
-    inl (subst (λ a. IsPlayAskedFor h.old a h.new) (sym asks.command) (play_asked h play asks
-    (of_film h.old.films play.setup.film is.0 (λ s. IsPlannedRun h.old s play.setup play.paused range planned) is.1.at
-    is.1 asks.stored asks.at)))
+    let planned_is = of_film h.old.films play.setup.film is.0
+    (λ s. IsPlannedRun h.old s play.setup play.paused range planned) is.1.at is.1 asks.stored asks.at in
+    inl (by_answer (IsPlayAskedFor h.old) (StartsPlay play planned asks planned_is) (play_asked play asks planned_is))
 good_starts h play good (Ok planned) is (inr refused) =
     inr (record { sequence = play.taken.request.sequence; refused = refused })
 good_starts h play good (Err refusal) is refused =
