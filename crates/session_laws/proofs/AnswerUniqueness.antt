@@ -47,10 +47,10 @@ use Rattle.rtsp_replies.specs.Replies.{describe_text, plain_text, public_text, r
 use Rattle.film_streams.specs.Setups.{IsSetupRead}
 use Rattle.session.specs.SessionStates.{AreFilms, SessionState, with_reply}
 use Rattle.session.proofs.InitialStateLemmas.{HeardMessage, TwoHearings}
-use Rattle.session_laws.proofs.RequestReadings.{Does, does_task, reading_of, refused_in, taken_up, AreAlike, passes_of}
+use Rattle.session_laws.proofs.RequestReadings.{Does, as_read, does_task, passes_of, refused_in, taken_up}
 use Rattle.session.proofs.RequestUniqueness.{AreSameNames, first_sequence_is, names_once, read_once, topic_once}
 use Rattle.session.proofs.RequestUniqueness.{wait_once}
-use Rattle.session_laws.proofs.PlanUniqueness.{film_at_once, planned_once}
+use Rattle.session_laws.proofs.PlanUniqueness.{PlanAsked, film_at_once, planned_once}
 
 -- the slots that were stepped
 through_once : (one other : Option ℕ) → slots_through other ≡ slots_through one → other ≡ one
@@ -61,10 +61,7 @@ through_once (Some n) (Some m) same = ap (λ k. Some k) (let is : m ≡ n = omeg
 
 found_once : (one other : Offers) → other.wait ≡ one.wait → other.start ≡ one.start → other.tried ≡ one.tried
     → other ≡ one
-found_once one other wait start tried =
-    let F : ℕ → Option ℕ → List Tried → Offers = λ w s t. record { wait = w; start = s; tried = t } in
-    ap (λ w. F w other.start other.tried) wait ∙ ap (λ s. F one.wait s other.tried) start ∙ ap
-    (λ t. F one.wait one.start t) tried
+found_once one other wait start tried = λ i. record { wait = wait i; start = start i; tried = tried i }
 
 abbrev Agree : TwoHearings → Type 0
 Agree w = IsOneAnswer w.old w.message w.ask w.one w.again w.other
@@ -80,20 +77,22 @@ module _ (w : TwoHearings) where
   same : again ≡ ask → other ≡ one → Agree w
   same command session = inl (record { ask_is = command; session_is = session })
 
-  replied_once : (text text' : List ℕ) → text' ≡ text → IsReplied old text ask one
-      → IsReplied old text' again other → Agree w
-  replied_once text text' alike is its = same (its.0 ∙ sym is.0) (its.1 ∙ ap (λ t. with_reply old t) alike ∙ sym is.1)
+  -- it came to the same each time
+  both_do : {command : Ask} {made : SessionState} → (ask ≡ command) × (one ≡ made)
+      → (again ≡ command) × (other ≡ made) → Agree w
+  both_do is its = same (its.0 ∙ sym is.0) (its.1 ∙ sym is.1)
 
   describes_once : (sequence film : ℕ) (authority : List ℕ) → Describes old sequence film authority ask one
       → Describes old sequence film authority again other → Agree w
   describes_once sequence film authority is its =
-      replied_once _ _ (ap (λ (s : Stored). describe_text sequence authority (string_bytes s.name) (length_ms s.film))
-      (film_at_once old.films film is.stored its.stored is.at its.at)) is.reply its.reply
+      both_do is.reply (subst (λ (s : Stored). IsReplied old
+      (describe_text sequence authority (string_bytes s.name) (length_ms s.film)) again other)
+      (film_at_once old.films film is.stored its.stored is.at its.at) its.reply)
 
   set_up_once : (sequence : ℕ) (read : Result Setup Refusal) → IsSetUp old sequence read ask one
       → IsSetUp old sequence read again other → Agree w
-  set_up_once sequence (Ok setup) is its = same (its.0 ∙ sym is.0) (its.1 ∙ sym is.1)
-  set_up_once sequence (Err refusal) is its = replied_once _ _ refl is its
+  set_up_once sequence (Ok setup) is its = both_do is its
+  set_up_once sequence (Err refusal) is its = both_do is its
 
   -- a play of which a halt is asked, by a request of this number
   record HaltCall : Type 0 where
@@ -117,7 +116,7 @@ module _ (w : TwoHearings) where
       → TearsDown state old sequence again other → Agree w
   tears_once (Playing setup play) sequence is its =
       halts_once (record { sequence = sequence; setup = setup; play = play; next = Torn }) is its
-  tears_once _ sequence is its = same (its.0 ∙ sym is.0) (its.1 ∙ sym is.1)
+  tears_once _ sequence is its = both_do is its
 
   pauses_play_once : (sequence : ℕ) (setup : Setup) (play : Played)
       → PausesPlay old sequence setup play ask one → PausesPlay old sequence setup play again other → Agree w
@@ -135,17 +134,19 @@ module _ (w : TwoHearings) where
   pauses_once (Playing setup play) sequence is its = pauses_play_once sequence setup play is its
   pauses_once _ sequence is its = absurd is
 
--- the request that it was, as it was read each time
+-- the request that it was, and where the session read it the second time
 record TwoRequests : Type 0 where
   w : TwoHearings
   request : Request
-  other : Request
-  alike : AreAlike request other
+  place : Request
   number : first_sequence w.message ≡ Some request.sequence
 
 module _ (r : TwoRequests) where
-  open r use {w, request, other as reread, alike, number}
+  open r use {w, request, place, number}
   open w use {old, one, other, ask, again}
+
+  abbrev reread : Request
+  reread = as_read place request
 
   -- memory ran out for it, the one time or the other
   first_wants : IsRefused old (Some request.sequence) Memory [] ask one → Agree w
@@ -165,10 +166,10 @@ module _ (r : TwoRequests) where
       }) (film_at_once old.films setup.film is.stored its.stored is.at its.at) ∙ sym is.state)
   play_or_once authority setup (Ok planned) (inl is) (inr its) = second_wants its
   play_or_once authority setup (Ok planned) (inr is) its = first_wants is
-  play_or_once authority setup (Err refusal) is its = replied_once w _ _ refl is its
+  play_or_once authority setup (Err refusal) is its = both_do w is its
 
   looks_once : Looks old request.sequence ask one → Looks old request.sequence again other → Agree w
-  looks_once (inl is) (inl its) = same w (its.command ∙ sym is.command) (its.state ∙ sym is.state)
+  looks_once (inl is) (inl its) = both_do w (is.command, is.state) (its.command, its.state)
   looks_once (inl is) (inr its) = second_wants its.refused
   looks_once (inr is) its = first_wants is.refused
 
@@ -181,86 +182,66 @@ module _ (r : TwoRequests) where
       same w (its.command ∙ ap (λ o. AskOffer planned.plan o) offers ∙ sym is.command) (its.state ∙ sym is.state)
   offer_or_once wait (Ok planned) (inl is) (inr its) = second_wants its
   offer_or_once wait (Ok planned) (inr is) its = first_wants is
-  offer_or_once wait (Err refusal) is its = replied_once w _ _ refl is its
+  offer_or_once wait (Err refusal) is its = both_do w is its
 
-  offers_in_once : {wait : ℕ} {setup : Setup} {paused : Option Run}
-      → OffersReady old request.sequence wait setup paused ask one
-      → OffersReady old request.sequence wait setup paused again other → Agree w
-  offers_in_once {wait} {setup} {paused} is its =
-      elim (planned_once (record { old = old; setup = setup; paused = paused; range = None }) is.planned its.planned
-      is.is_planned its.is_planned) [
-        | inl alike ↦ offer_or_once wait is.planned is.asks
-            (subst (λ p. AsksOfferOr old request.sequence wait p again other) alike its.asks)
-        | inr lacks ↦ elim lacks [
-          | inl first ↦ first_wants
-              (subst (λ p. AsksOfferOr old request.sequence wait p ask one) first is.asks)
-          | inr second ↦ second_wants
-              (subst (λ p. AsksOfferOr old request.sequence wait p again other) second its.asks)
-        ]
+  -- what is done by a plan, which is the same each time where memory doesn't run out for one
+  by_plan : {plan again_plan : Result Planned Refusal} (p : PlanAsked)
+      (P : Result Planned Refusal → Ask → SessionState → Type 0)
+      → ((x : Result Planned Refusal) → P x ask one → P x again other → Agree w)
+      → (P (Err Memory) ask one → Agree w) → (P (Err Memory) again other → Agree w)
+      → IsPlanned p.old p.setup p.paused p.range plan → IsPlanned p.old p.setup p.paused p.range again_plan
+      → P plan ask one → P again_plan again other → Agree w
+  by_plan {plan} {again_plan} p P both first second planned replanned is its =
+      elim (planned_once p plan again_plan planned replanned) [
+        | inl alike ↦ both plan is (subst (λ x. P x again other) alike its)
+        | inr (inl lacks) ↦ first (subst (λ x. P x ask one) lacks is)
+        | inr (inr lacks) ↦ second (subst (λ x. P x again other) lacks its)
       ]
 
   sets_up_once : (film : ℕ) → SetsUp old request film ask one → SetsUp old reread film again other → Agree w
   sets_up_once film is its =
-      let read = subst (λ h. IsSetupRead old.settings h film its.read) alike.parts.head_is its.is_read in
-      let reads = read_once (record { settings = old.settings; head = request.head.now; film = film }) is.read its.read
-      is.is_read read in
       set_up_once w request.sequence is.read is.done
-      (subst (λ x. IsSetUp old request.sequence x again other) reads
-      (subst (λ s. IsSetUp old s its.read again other) alike.parts.sequence_is its.done))
+      (subst (λ x. IsSetUp old request.sequence x again other)
+      (read_once (record { settings = old.settings; head = request.head.now; film = film }) is.read its.read
+      is.is_read its.is_read) its.done)
 
   plays_once : (state : State) (authority : List ℕ) → Plays state old request authority ask one
       → Plays state old reread authority again other → Agree w
   plays_once Init authority is its = absurd is
   plays_once (Ready setup paused) authority is its =
-      let range = header_value request.head.now (codes "Range") in
-      let call = play_call request.sequence authority setup in
-      let planned = subst (λ h. IsPlanned old setup paused (header_value h (codes "Range")) its.planned)
-      alike.parts.head_is its.is_planned in
-      let asks = subst (λ s. AsksPlayOr old (play_call s authority setup) its.planned again other)
-      alike.parts.sequence_is its.asks in
-      elim (planned_once (record { old = old; setup = setup; paused = paused; range = range }) is.planned its.planned
-      is.is_planned planned) [
-        | inl alike ↦ play_or_once authority setup is.planned is.asks
-            (subst (λ p. AsksPlayOr old call p again other) alike asks)
-        | inr lacks ↦ elim lacks [
-          | inl first ↦ first_wants (subst (λ p. AsksPlayOr old call p ask one) first is.asks)
-          | inr second ↦ second_wants (subst (λ p. AsksPlayOr old call p again other) second asks)
-        ]
-      ]
-  plays_once _ authority is its = replied_once w _ _ (ap (λ s. session_text s old.id) alike.parts.sequence_is) is its
+      by_plan (record {
+        old = old;
+        setup = setup;
+        paused = paused;
+        range = header_value request.head.now (codes "Range");
+      }) (AsksPlayOr old (play_call request.sequence authority setup)) (play_or_once authority setup)
+      first_wants second_wants is.is_planned its.is_planned is.asks its.asks
+  plays_once _ authority is its = both_do w is its
 
-  refused_alike : (refusal : Refusal) → IsRefused old (Some request.sequence) refusal [] ask one
-      → IsRefused old (Some reread.sequence) refusal [] again other → Agree w
-  refused_alike refusal is its =
-      replied_once w _ _ (ap (λ s. refusal_text (Some s) refusal []) alike.parts.sequence_is) is its
+  offers_once : {wait : ℕ} {setup : Setup} {paused : Option Run}
+      → OffersReady old request.sequence wait setup paused ask one
+      → OffersReady old request.sequence wait setup paused again other → Agree w
+  offers_once {wait} {setup} {paused} is its =
+      by_plan (record { old = old; setup = setup; paused = paused; range = None })
+      (AsksOfferOr old request.sequence wait) (offer_or_once wait) first_wants second_wants
+      is.is_planned its.is_planned is.asks its.asks
 
   gets_offer_once : (state : State) → GetsOffer state old request ask one
       → GetsOffer state old reread again other → Agree w
-  gets_offer_once Init is its = refused_alike Session is its
-  gets_offer_once (Ready setup paused) (inl is) (inl its) = refused_alike Parameter is.refused its.refused
-  gets_offer_once (Ready setup paused) (inl is) (inr its) =
-      absurd (is.none its.wait (subst (λ h. HasWait h its.wait) alike.parts.head_is its.has_wait))
-  gets_offer_once (Ready setup paused) (inr is) (inl its) =
-      absurd (its.none is.wait (subst (λ h. HasWait h is.wait) (sym alike.parts.head_is) is.has_wait))
+  gets_offer_once Init is its = both_do w is its
+  gets_offer_once (Ready setup paused) (inl is) (inl its) = both_do w is.refused its.refused
+  gets_offer_once (Ready setup paused) (inl is) (inr its) = absurd (is.none its.wait its.has_wait)
+  gets_offer_once (Ready setup paused) (inr is) (inl its) = absurd (its.none is.wait is.has_wait)
   gets_offer_once (Ready setup paused) (inr is) (inr its) =
-      let wait = wait_once (header_value request.head.now (codes "x-Wait")) is.wait its.wait is.has_wait
-      (subst (λ h. HasWait h its.wait) alike.parts.head_is its.has_wait) in
-      offers_in_once is.offers
-      (subst (λ w. OffersReady old request.sequence w setup paused again other) wait
-      (subst (λ s. OffersReady old s its.wait setup paused again other) alike.parts.sequence_is its.offers))
-  gets_offer_once _ is its = refused_alike NotNow is its
+      offers_once is.offers (subst (λ n. OffersReady old request.sequence n setup paused again other)
+      (wait_once (header_value request.head.now (codes "x-Wait")) is.wait its.wait is.has_wait its.has_wait)
+      its.offers)
+  gets_offer_once _ is its = both_do w is its
 
   gets_once : (topic : Topic) → Gets old request topic ask one → Gets old reread topic again other → Agree w
-  gets_once NoTopic is its = replied_once w _ _ (ap plain_text alike.parts.sequence_is) is its
-  gets_once Booked is its = looks_once is (subst (λ s. Looks old s again other) alike.parts.sequence_is its)
+  gets_once Booked is its = looks_once is its
   gets_once OfferTopic is its = gets_offer_once old.state is its
-  gets_once Unknown is its = refused_alike Parameter is its
-
-  -- the film that it names, each time
-  same_names : {a b : List ℕ} {film number : ℕ} → Names old.films request.url.now a film
-      → Names old.films reread.url.now b number → AreSameNames a b film number
-  same_names {b} {number} is its =
-      names_once w.films is (subst (λ u. Names old.films u b number) alike.parts.url_is its)
+  gets_once _ is its = both_do w is its
 
   -- what a request does, each time
   abbrev first_does : Method → Type 0
@@ -270,31 +251,26 @@ module _ (r : TwoRequests) where
   second_does m = Does (record { old = old; new = other; request = reread; ask = again }) m
 
   does_once : (method : Method) → first_does method → second_does method → Agree w
-  does_once Options is its = replied_once w _ _ (ap public_text alike.parts.sequence_is) is its
+  does_once Options is its = both_do w is its
   does_once Describe is its =
-      let names = same_names is.1.1.0.named its.1.1.0.named in
+      let names = names_once w.films is.1.1.0.named its.1.1.0.named in
       describes_once w request.sequence is.1.0 is.0 is.1.1.1
-      (subst (λ n. Describes old request.sequence n is.0 again other) names.film_is
-      (subst (λ a. Describes old request.sequence its.1.0 a again other) names.authority
-      (subst (λ s. Describes old s its.1.0 its.0 again other) alike.parts.sequence_is its.1.1.1)))
+      (subst (λ (x : List ℕ × ℕ). Describes old request.sequence x.1 x.0 again other)
+      (λ i. (names.authority i, names.film_is i)) its.1.1.1)
   does_once SetupMethod is its =
-      let names = same_names is.1.1.0.named its.1.1.0.named in
       sets_up_once is.1.0 is.1.1.1
-      (subst (λ n. SetsUp old reread n again other) names.film_is its.1.1.1)
+      (subst (λ n. SetsUp old reread n again other)
+      (names_once w.films is.1.1.0.named its.1.1.0.named).film_is its.1.1.1)
   does_once PlayMethod is its =
-      let names = same_names is.1.1.0.named its.1.1.0.named in
       plays_once old.state is.0 is.1.1.1
-      (subst (λ a. Plays old.state old reread a again other) names.authority its.1.1.1)
-  does_once Pause is its =
-      pauses_once w old.state request.sequence is
-      (subst (λ s. Pauses old.state old s again other) alike.parts.sequence_is its)
-  does_once Teardown is its =
-      tears_once w old.state request.sequence is
-      (subst (λ s. TearsDown old.state old s again other) alike.parts.sequence_is its)
+      (subst (λ a. Plays old.state old reread a again other)
+      (names_once w.films is.1.1.0.named its.1.1.0.named).authority its.1.1.1)
+  does_once Pause is its = pauses_once w old.state request.sequence is its
+  does_once Teardown is its = tears_once w old.state request.sequence is its
   does_once GetParameter is its =
-      let topic = topic_once request.body.now is.topic its.topic is.is_topic
-      (subst (λ b. IsTopic b its.topic) alike.parts.body_is its.is_topic) in
-      gets_once is.topic is.gets (subst (λ t. Gets old reread t again other) topic its.gets)
+      gets_once is.topic is.gets
+      (subst (λ t. Gets old reread t again other)
+      (topic_once request.body.now is.topic its.topic is.is_topic its.is_topic) its.gets)
 
 takes_once : (w : TwoHearings) (request : Request) (judgement : Result Task Refusal) → IsReadAs w.message request
     → IsJudged w.old.films w.old.id w.old.state request judgement → Takes w.old request judgement w.ask w.one
@@ -304,23 +280,18 @@ takes_once w request (Ok task) read judged takes =
     does_once (record {
       w = w;
       request = request;
-      other = up.other;
-      alike = up.alike;
+      place = up.place;
       number = first_sequence_is w.message request.sequence read.sequence_is;
     }) (method_of task)
     (does_task (record { old = w.old; new = w.one; request = request; ask = w.ask }) task judged.film takes) up.does
 takes_once w request (Err refusal) read judged takes =
-    let r = reading_of (second_of w) request read in
-    replied_once w _ _
-    (ap (λ s. refusal_text (Some s) refusal (option_of r.other.head.now)) r.alike.parts.sequence_is
-    ∙ ap (λ h. refusal_text (Some request.sequence) refusal (option_of h)) r.alike.parts.head_is) takes
-    (refused_in refusal r judged)
+    both_do w takes (refused_in (second_of w) request refusal read judged)
 
 both_once : (w : TwoHearings) → Hears w.old w.message w.ask w.one → Hears w.old w.message w.again w.other → Agree w
 both_once w (inl is) (inl its) =
-    replied_once w _ _
-    (ap (λ f. refusal_text (first_sequence w.message) (fault_refusal f) [])
-    (fault_once w.message its.fault is.fault its.is_fault is.is_fault)) is.refused its.refused
+    both_do w is.refused
+    (subst (λ f. IsRefused w.old (first_sequence w.message) (fault_refusal f) [] w.again w.other)
+    (fault_once w.message its.fault is.fault its.is_fault is.is_fault) its.refused)
 both_once w (inl is) (inr its) = absurd (no_fault is.fault its.is_request is.is_fault)
 both_once w (inr is) its = takes_once w is.request is.hears.judgement is.is_request is.hears.judged is.hears.takes
 
@@ -328,7 +299,7 @@ both_once w (inr is) its = takes_once w is.request is.hears.judgement is.is_requ
 pub hears_once : {again : Ask} {other : SessionState} (h : HeardMessage) → AreFilms h.old.films
     → Hears h.old h.message again other → IsOneAnswer h.old h.message h.ask h.new again other
 hears_once {again} {other} h films its =
-    let twice : TwoHearings = record {
+    both_once (record {
       old = h.old;
       one = h.new;
       other = other;
@@ -338,5 +309,4 @@ hears_once {again} {other} h films its =
       films = films;
       is = h.hears;
       its = its;
-    } in
-    both_once twice h.hears its
+    }) h.hears its

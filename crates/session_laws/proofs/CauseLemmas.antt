@@ -2,7 +2,11 @@
 use Rattle.std.specs.Prelude.{⊤}
 use Rattle.std.proofs.Common.{◌≡◌, ◌≢◌, ℕ, ◌<◌, ◌⊎◌, true, List, [], codes, Option, Some, None, is_some, Err, refl, sym}
 use Rattle.std.proofs.Common.{ap, subst, ◌∙◌, inl, inr, arith, Bool, false, ◌==◌}
+use Rattle.rtsp_methods.specs.Refusals.{curve_refusal}
 use Rattle.rtsp_text.specs.Fields.{header_value}
+use Rattle.wire_curve.specs.declared.film.CurveRefused.{CurveRefused}
+use Rattle.wire_curve.specs.declared.film.CurveRefused.TheVariants.{Fault, NoMemory as CurveMemory}
+use Rattle.wire_curve.specs.declared.film.CurveFault.TheVariants.{BufferTooSmall}
 use Rattle.rtsp_text.specs.Replies.{Field, reply_text}
 use Rattle.rtsp_text.specs.declared.requests.Request.{Request}
 use Rattle.rtsp_text.proofs.MessageUniqueness.{no_fault}
@@ -24,13 +28,13 @@ use Rattle.rtsp_replies.specs.Replies.{code_of, refusal_text}
 use Rattle.session.specs.RequestEffects.{HasCode}
 use Rattle.session.specs.RequestSteps.{Hears}
 use Rattle.session.specs.SessionStates.{SessionState, has_session_in}
-use Rattle.session_laws.proofs.MethodLemmas.{CurveCause, IsRange, IsBuffer, IsMemory, cause_as, curve_cause, exists_in}
-use Rattle.session_laws.proofs.MethodLemmas.{fits_session}
+use Rattle.session_laws.proofs.MethodLemmas.{exists_in, fits_session}
 use Rattle.session.proofs.ReplyCodeLemmas.{ok_text_code, one_code, own_code, refusal_code}
 use Rattle.session.proofs.RequestUniqueness.{NoChannels, NoMeaning, unread}
-use Rattle.session_laws.proofs.RequestReadings.{AreAlike, same_request}
+use Rattle.session_laws.proofs.RequestReadings.{same_parts}
 use Rattle.session.proofs.InitialStateLemmas.{HeardMessage, heard_by}
-use Rattle.session.proofs.RequestCaseAnalysis.{Answer, Replies, SetsUp, EndsSession, asks_as, OwnReply, ToFault}
+use Rattle.session.proofs.RequestCaseAnalysis.{Answer, Replies, SetsUp, EndsSession, OwnReply, ToFault, asked_by}
+use Rattle.session.proofs.RequestCaseAnalysis.{by_answer, made_by}
 use Rattle.session.proofs.RequestCaseAnalysis.{ToRefused, ToDeclined, OwnCause, NoSetup, NoPlan, NoMemory, NoSession}
 use Rattle.session.proofs.RequestCaseAnalysis.{NotInPlaying, NoParameter, answer_to, reply_of}
 use Rattle.std.specs.Bool.{⊤}
@@ -52,11 +56,11 @@ caused_as : {refusal own : Refusal} (old : SessionState) (request : Request) →
     → Causes old request (code_of own) → Causes old request (code_of refusal)
 caused_as old request is causes = subst (λ r. Causes old request (code_of r)) (sym is) causes
 
-curve_causes : {refusal : Refusal} (old : SessionState) (request : Request) → CurveCause refusal
-    → Causes old request (code_of refusal)
-curve_causes old request (IsRange is) = caused_as old request is tt
-curve_causes old request (IsBuffer least is) = caused_as old request is tt
-curve_causes old request (IsMemory is) = caused_as old request is tt
+curve_causes : (old : SessionState) (request : Request) (refused : CurveRefused)
+    → Causes old request (code_of (curve_refusal refused))
+curve_causes old request (Fault (BufferTooSmall slot used least)) = tt
+curve_causes old request (Fault _) = tt
+curve_causes old request CurveMemory = tt
 
 own_causes : {h : HeardMessage} {other : Request} {refusal : Refusal} (request : Request) → OwnCause h other refusal
     → Causes h.old request (code_of refusal)
@@ -67,7 +71,7 @@ own_causes {h} {other} {refusal} request (NoSetup film is) =
     ]
 own_causes {h} request (NoPlan setup paused range (inl none) may) = caused_as h.old request none.refusal_is tt
 own_causes {h} request (NoPlan setup paused range (inr none) may) =
-    curve_causes h.old request (cause_as none.refusal_is (curve_cause none.refused))
+    caused_as h.old request none.refusal_is (curve_causes h.old request none.refused)
 own_causes {h} request (NoMemory same may) = caused_as h.old request same tt
 own_causes {h} request (NoSession same init) =
     caused_as h.old request same (λ setup set names. let none = ap setup_in init in let no : ⊥ = cc (none, set) in no)
@@ -94,86 +98,65 @@ not_own : (state : State) (film : ℕ) → ¬ IsOwnFilm state film
 not_own Init film other = absurd (other tt)
 not_own _ film other = (_, (refl, other))
 
--- of a request, by another that is alike
-judged_causes : {request other : Request} (old : SessionState) → AreAlike request other → (refusal : Refusal)
-    → IsJudged old.films old.id old.state other (Err refusal) → Causes old request (code_of refusal)
-judged_causes old alike Unknown is = λ known. is.none known.0 (alike.parts.method_is ∙ known.1)
-judged_causes {other} old alike Required is =
-    let own = some_option other (header_value other.head.now (codes "Require"))
-    (header_value other.head.now (codes "Proxy-Require")) refl refl is.required in (
-      own.0,
-      subst (λ (x : List ℕ). (header_value x (codes "Require") ≡ Some own.0)
-          ⊎ (header_value x (codes "Proxy-Require") ≡ Some own.0)) alike.parts.head_is own.1,
-    )
-judged_causes old alike Session is = λ setup set names.
-    is.session (fits_session is.method (has_session_in old.state) (exists_in old.state setup set)
-    (subst (λ (x : List ℕ). NamesSession old.id x) (sym alike.parts.head_is) names))
-judged_causes old alike Film is = λ authority film named. not_own old.state film (λ own. is.none (
-  authority,
-  (
-    film,
-    record {
-      named = subst (λ (u : List ℕ). Names old.films u authority film) (sym alike.parts.url_is) named;
-      own = fits_film is.method old.state film own;
-    },
-  ),
-))
-judged_causes old alike NotNow is = tt
-judged_causes old alike _ is = absurd is
+judged_causes : (old : SessionState) (request : Request) (refusal : Refusal)
+    → IsJudged old.films old.id old.state request (Err refusal) → Causes old request (code_of refusal)
+judged_causes old request Unknown is = λ known. is.none known.0 known.1
+judged_causes old request Required is =
+    some_option request (header_value request.head.now (codes "Require"))
+    (header_value request.head.now (codes "Proxy-Require")) refl refl is.required
+judged_causes old request Session is = λ setup set names.
+    is.session (fits_session is.method (has_session_in old.state) (exists_in old.state setup set) names)
+judged_causes old request Film is = λ authority film named. not_own old.state film (λ own. is.none
+    (authority, (film, record { named = named; own = fits_film is.method old.state film own })))
+judged_causes old request NotNow is = tt
+judged_causes old request _ is = absurd is
 
 -- ---- the code of a reply
 
 -- a request that was read from a message, and its reply
-pub record CodedRequest (h : HeardMessage) (request : Request) (code : ℕ) : Type 0 where
+pub record CodedRequest (h : HeardMessage) (request : Request) (code : ℕ) (text : List ℕ) : Type 0 where
   pub read : IsReadAs h.message request
   pub small : code < 1000
-  pub has : HasCode code h.new.text
+  pub has : HasCode code text
 
 -- a text of another code
-coded : {h : HeardMessage} {request : Request} {code : ℕ} (its : ℕ) → CodedRequest h request code → its < 1000
-    → HasCode its h.new.text → Causes h.old request its → Causes h.old request code
-coded {h} {request} its reply small has causes =
-    subst (Causes h.old request) (one_code h.new.text small reply.small has reply.has) causes
-
-says : {h : HeardMessage} {request : Request} {code : ℕ} → CodedRequest h request code → HasCode 200 h.new.text
-    → Causes h.old request code
-says reply has = coded 200 reply (omega arith) has tt
+coded : {h : HeardMessage} {request : Request} {code : ℕ} (its : ℕ) (text : List ℕ) → CodedRequest h request code text
+    → its < 1000 → HasCode its text → Causes h.old request its → Causes h.old request code
+coded {h} {request} its text reply small has causes =
+    subst (Causes h.old request) (one_code text small reply.small has reply.has) causes
 
 -- a text of 200
-has_200 : {text : List ℕ} (sequence : Option ℕ) (fields : List Field) (body : List ℕ)
-    → text ≡ reply_text 200 sequence fields body → HasCode 200 text
-has_200 sequence fields body is = subst (λ (t : List ℕ). HasCode 200 t) (sym is) (ok_text_code sequence fields body)
+says : {h : HeardMessage} {request : Request} {code : ℕ} (sequence : Option ℕ) (fields : List Field) (body : List ℕ)
+    → CodedRequest h request code (reply_text 200 sequence fields body) → Causes h.old request code
+says sequence fields body reply =
+    coded 200 (reply_text 200 sequence fields body) reply (omega arith) (ok_text_code sequence fields body) tt
 
--- a text of a refusal
-has_code : {text : List ℕ} (refusal : Refusal) (sequence : Option ℕ) (option : List ℕ)
-    → text ≡ refusal_text sequence refusal option → HasCode (code_of refusal) text
-has_code refusal sequence option is =
-    subst (λ (t : List ℕ). HasCode (code_of refusal) t) (sym is) (refusal_code sequence refusal option)
-
-own_coded : {h : HeardMessage} {request : Request} {code : ℕ} → CodedRequest h request code → (reply : OwnReply h)
-    → h.new.text ≡ reply_of h reply → Causes h.old request code
-own_coded reply (ToFault fault is_fault) is = absurd (no_fault fault reply.read is_fault)
-own_coded {h} {request} reply (ToRefused other refusal read judged) is =
-    coded (code_of refusal) reply (own_code refusal).small
-    (has_code refusal (Some other.sequence) (option_of other.head.now) is)
-    (judged_causes h.old (same_request h.message request other reply.read read) refusal judged)
-own_coded {h} {request} reply (ToDeclined other refusal read cause) is =
-    coded (code_of refusal) reply (own_code refusal).small (has_code refusal (Some other.sequence) [] is)
+own_coded : {h : HeardMessage} {request : Request} {code : ℕ} (reply : OwnReply h)
+    → CodedRequest h request code (reply_of h reply) → Causes h.old request code
+own_coded (ToFault fault is_fault) reply = absurd (no_fault fault reply.read is_fault)
+own_coded {h} {request} (ToRefused other refusal read judged) reply =
+    coded (code_of refusal) _ reply (own_code refusal).small
+    (refusal_code (Some other.sequence) refusal (option_of other.head.now))
+    (same_parts request other reply.read read (λ r. Causes h.old r (code_of refusal))
+    (judged_causes h.old other refusal judged))
+own_coded {request = request} (ToDeclined other refusal read cause) reply =
+    coded (code_of refusal) _ reply (own_code refusal).small (refusal_code (Some other.sequence) refusal [])
     (own_causes request cause)
-own_coded reply _ is = says reply (has_200 _ _ _ is)
+own_coded _ reply = says _ _ _ reply
 
-answer_causes : {request : Request} {code : ℕ} (h : HeardMessage) → CodedRequest h request code → h.ask ≡ Reply
-    → Answer h → Causes h.old request code
-answer_causes h reply alone (Replies own is) = own_coded reply own (ap (λ (s : SessionState). s.text) is.1)
-answer_causes h reply alone (SetsUp film taken setup asks is) =
-    says reply (has_200 (Some taken.request.sequence) _ [] (ap (λ (s : SessionState). s.text) is.1))
-answer_causes h reply alone (EndsSession taken is) =
-    says reply (has_200 (Some taken.request.sequence) _ [] (ap (λ (s : SessionState). s.text) is.1))
-answer_causes h reply alone answer = absurd (let no : ⊥ = cc (asks_as answer, alone) in no)
+answer_causes : {h : HeardMessage} {request : Request} {code : ℕ} (answer : Answer h) → asked_by answer ≡ Reply
+    → CodedRequest h request code (made_by answer).text → Causes h.old request code
+answer_causes (Replies own is) alone reply = own_coded own reply
+answer_causes (SetsUp film taken setup asks is) alone reply = says _ _ _ reply
+answer_causes (EndsSession taken is) alone reply = says _ _ _ reply
+answer_causes _ alone reply = absurd (let no : ⊥ = cc in no)
 
-pub causes_of : {h : HeardMessage} (request : Request) (code : ℕ) → h.ask ≡ Reply → CodedRequest h request code
-    → Causes h.old request code
-causes_of {h} request code alone reply = answer_causes h reply alone (answer_to h)
+pub causes_of : {h : HeardMessage} (request : Request) (code : ℕ) → h.ask ≡ Reply
+    → CodedRequest h request code h.new.text → Causes h.old request code
+causes_of {h} request code =
+    let answer = answer_to h in
+    by_answer (λ a s. a ≡ Reply → CodedRequest h request code s.text → Causes h.old request code) answer
+    (answer_causes answer)
 
 -- a request whose own reply has a code gave a cause for it
 abbrev pub HasCause : ℕ → Type 0

@@ -137,5 +137,4 @@ teardown_answered c may =
       );
       state = tt;
     }) in
-    subst (λ n. IsTornAnswered old n c.h.new) (up.alike.parts.sequence_is ∙ r.sequence_is)
-    (tears_in c.h up.other.sequence old.state refl up.does)
+    subst (λ n. IsTornAnswered old n c.h.new) r.sequence_is (tears_in c.h request.sequence old.state refl up.does)

@@ -69,10 +69,9 @@ use Rattle.session.proofs.RequestCaseAnalysis.{Answer, Replies as RepliesAlone, 
 use Rattle.session.proofs.RequestCaseAnalysis.{HaltsPlay, StopsPlay, EndsSession, TakesLook, SeeksOffer, OwnReply}
 use Rattle.session.proofs.RequestCaseAnalysis.{ToFault, ToRefused, ToDeclined, ToAsked, ToDescribed, ToConfirmed}
 use Rattle.session.proofs.RequestCaseAnalysis.{ToEmpty, OwnCause, NoSetup, NoPlan, NoMemory as LacksMemory, NoSession}
-use Rattle.session.proofs.RequestCaseAnalysis.{NotInPlaying, NoParameter, TakenTask, answer_to, reply_of}
+use Rattle.session.proofs.RequestCaseAnalysis.{NotInPlaying, NoParameter, TakenTask, answer_to, reply_of, asked_by}
+use Rattle.session.proofs.RequestCaseAnalysis.{by_answer, made_by}
 use Rattle.session_laws.proofs.PlayInReadyLemmas.{PlayStarted}
-use Rattle.session_laws.proofs.RunLemmas.{AsksLook, AsksOffer, AsksPlay as AsksForPlay, Replies, RunsAs, SetsUp}
-use Rattle.session_laws.proofs.RunLemmas.{Stops, runs_as}
 use Rattle.session_laws.proofs.ReplyContentLemmas.{authority_of, few_ms}
 use Rattle.rtsp_replies.proofs.ReplyMessages.{public_whole, session_whole, plain_whole, parameters_whole, AreSmall}
 use Rattle.rtsp_replies.proofs.ReplyMessages.{setup_whole, name_printed, describe_whole, IsRepeated, repeats_nothing}
@@ -297,8 +296,9 @@ own_whole h well (ToEmpty taken) =
     plain_whole taken.request.sequence (sized well.room taken.request taken.is_request).number
 
 -- the reply to a PLAY that the station is asked for
-started_whole : (h : HeardMessage) → IsNamedWell h → PlayStarted h → RepliesAreComplete h.ask h.new
-started_whole h well started =
+started_whole : {h : HeardMessage} → IsNamedWell h → (started : PlayStarted h)
+    → AnswersPlay (made_by (StartsPlay started.play started.planned started.asks started.planned_is))
+started_whole {h} well started =
     let r = sized well.room play.taken.request play.taken.is_request in
     let sequence = play.taken.request.sequence in
     let film = asks.stored.film in
@@ -325,64 +325,58 @@ started_whole h well started =
       number_fits = omega arith;
       time_fits = omega arith;
     } in
-    subst (λ (a : Ask). RepliesAreComplete a h.new) (sym asks.command) (subst AnswersPlay (sym asks.state) (record {
+    record {
       admission = λ place start small. play_whole parts (start - h.old.heard) (omega (arith, small));
       overflow = λ place slot booked asked one two three.
-          overflow_whole sequence
-          (record { slot = slot; booked = booked; asked = asked; slot_fits = one; booked_fits = two; asked_fits = three })
-          r.number;
+          overflow_whole sequence (record {
+            slot = slot;
+            booked = booked;
+            asked = asked;
+            slot_fits = one;
+            booked_fits = two;
+            asked_fits = three;
+          }) r.number;
       full = λ entries live one two. full_whole sequence entries live r.number one two;
-    }))
+    }
   where
     open started use {play, planned, asks, planned_is as is}
-
--- by what is asked of the station
-by_ask : {asked : Ask} (h : HeardMessage) → h.ask ≡ asked → RepliesAreComplete asked h.new
-    → RepliesAreComplete h.ask h.new
-by_ask h command whole = subst (λ (a : Ask). RepliesAreComplete a h.new) (sym command) whole
-
-of_text : {text : List ℕ} (h : HeardMessage) → h.new.text ≡ text → IsMessage text → IsMessage h.new.text
-of_text h is whole = subst IsMessage (sym is) whole
 
 told_whole : {h : HeardMessage} {task : Task} → IsNamedWell h → (taken : TakenTask h task)
     → IsMessage (session_text taken.request.sequence h.old.id)
 told_whole {h} well taken =
     session_whole taken.request.sequence h.old.id (sized well.room taken.request taken.is_request).number (own_id well)
 
-answer_whole : (h : HeardMessage) → IsNamedWell h → Answer h → RepliesAreComplete h.ask h.new
-answer_whole h well (RepliesAlone reply is) =
-    by_ask h is.0 (of_text h (ap (λ (s : SessionState). s.text) is.1) (own_whole h well reply))
-answer_whole h well (SettlesSetup film taken setup asks is) =
+answer_whole : {h : HeardMessage} → IsNamedWell h → (answer : Answer h)
+    → RepliesAreComplete (asked_by answer) (made_by answer)
+answer_whole {h} well (RepliesAlone reply is) = own_whole h well reply
+answer_whole {h} well (SettlesSetup film taken setup asks is) =
     let small = setup_small (header_value taken.request.head.now (codes "Transport"))
     (record { media = setup.media; control = setup.control }) asks.channels in
-    by_ask h is.0 (of_text h (ap (λ (s : SessionState). s.text) is.1) (setup_whole taken.request.sequence
-    h.old.source.ssrc (sized well.room taken.request taken.is_request).number small (own_id well)))
-answer_whole h well (StartsPlay play planned asks planned_is) =
-    started_whole h well (record { play = play; planned = planned; asks = asks; planned_is = planned_is })
-answer_whole h well (HaltsPlay taken hand is) =
-    by_ask h is.asks.command (of_text h (ap (λ (s : SessionState). s.text) is.asks.state) (told_whole well taken))
-answer_whole h well (StopsPlay taken hand is) =
-    by_ask h is.command (of_text h (ap (λ (s : SessionState). s.text) is.state) (told_whole well taken))
-answer_whole h well (EndsSession taken is) =
-    by_ask h is.0 (of_text h (ap (λ (s : SessionState). s.text) is.1) (told_whole well taken))
-answer_whole h well (TakesLook taken look) =
+    setup_whole taken.request.sequence h.old.source.ssrc (sized well.room taken.request taken.is_request).number small
+    (own_id well)
+answer_whole well (StartsPlay play planned asks planned_is) =
+    started_whole well (record { play = play; planned = planned; asks = asks; planned_is = planned_is })
+answer_whole well (HaltsPlay taken hand is) = told_whole well taken
+answer_whole well (StopsPlay taken hand is) = told_whole well taken
+answer_whole well (EndsSession taken is) = told_whole well taken
+answer_whole well (TakesLook taken look) =
     let n = taken.request.sequence in
     let number = (sized well.room taken.request taken.is_request).number in
-    by_ask h look.command (subst AnswersLook (sym look.state) (record {
+    record {
       look = λ place now at booked one two three.
           parameters_whole n (look_body now at booked) number (look_short now at booked one two three);
       full = λ entries live one two. full_whole n entries live number one two;
-    }))
-answer_whole h well (SeeksOffer offer planned is asks) =
+    }
+answer_whole well (SeeksOffer offer planned is asks) =
     let t = offer.taken in
-    by_ask h asks.command (λ note are. subst (λ (s : SessionState). IsMessage (after_offer s note).text) (sym asks.state)
-    (parameters_whole t.request.sequence (offer_body note.offers.start note.offers.tried)
-    (sized well.room t.request t.is_request).number (offer_short note.offers are)))
+    λ note are. parameters_whole t.request.sequence (offer_body note.offers.start note.offers.tried)
+    (sized well.room t.request t.is_request).number (offer_short note.offers are)
 
 pub replies_whole : (old : SessionState) (message : List ℕ) (ask : Ask) (new : SessionState) → HasValidIds old
     → LeavesRoom message → Hears old message ask new → RepliesAreComplete ask new
 replies_whole old message ask new named room hears =
-    answer_whole (heard_by hears) (record { named = named; room = room }) (answer_to (heard_by hears))
+    let answer = answer_to (heard_by hears) in
+    by_answer RepliesAreComplete answer (answer_whole (record { named = named; room = room }) answer)
 
 -- what a session keeps from its beginning
 pub begins_named : (films : List Stored) (settings : Settings) (words : List ℕ) → AreFilms films
@@ -393,21 +387,12 @@ begins_named films settings words are = record {
   id_is = refl;
 }
 
-stays_named : {old next : SessionState} → HasValidIds old → next.films ≡ old.films → next.id ≡ old.id → HasValidIds next
-stays_named named films id = record {
-  films = subst AreFilms (sym films) named.films;
-  number = named.number;
-  id_is = id ∙ named.id_is;
-}
-
-as_named : {old new : SessionState} {ask : Ask} → HasValidIds old → RunsAs old ask new → HasValidIds new
-as_named named (Replies text tearing ask_is is) = subst HasValidIds (sym is) (stays_named named refl refl)
-as_named named (SetsUp text setup init ask_is is) = subst HasValidIds (sym is) (stays_named named refl refl)
-as_named named (AsksForPlay play ask_is is) = subst HasValidIds (sym is) (stays_named named refl refl)
-as_named named (Stops halt ask_is is) = subst HasValidIds (sym is) (stays_named named refl refl)
-as_named named (AsksLook sequence ask_is is) = subst HasValidIds (sym is) (stays_named named refl refl)
-as_named named (AsksOffer plan offers sequence ask_is is) = subst HasValidIds (sym is) (stays_named named refl refl)
+answer_named : {h : HeardMessage} → HasValidIds h.old → (answer : Answer h) → HasValidIds (made_by answer)
+answer_named named (RepliesAlone reply is) =
+    record { films = named.films; number = named.number; id_is = named.id_is }
+answer_named named _ = record { films = named.films; number = named.number; id_is = named.id_is }
 
 pub keeps_named : (old new : SessionState) (message : List ℕ) (ask : Ask) → Hears old message ask new → HasValidIds old
     → HasValidIds new
-keeps_named old new message ask hears named = as_named named (runs_as hears)
+keeps_named old new message ask hears named =
+    let answer = answer_to (heard_by hears) in by_answer (λ a s. HasValidIds s) answer (answer_named named answer)

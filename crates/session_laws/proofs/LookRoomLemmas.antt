@@ -15,9 +15,8 @@ use Rattle.session.specs.SessionStates.{SessionState}
 use Rattle.session.proofs.InitialStateLemmas.{Beginning, HeardMessage, heard_by}
 use Rattle.session.proofs.RequestUniqueness.{topic_once}
 use Rattle.session.proofs.ReplyCodeLemmas.{hears_may}
-use Rattle.session.proofs.RequestCaseAnalysis.{Answer, Replies, SetsUp, StartsPlay, HaltsPlay, StopsPlay, EndsSession}
-use Rattle.session.proofs.RequestCaseAnalysis.{TakesLook, SeeksOffer, answer_to}
-use Rattle.session_laws.proofs.RequestReadings.{same_request}
+use Rattle.session.proofs.RequestCaseAnalysis.{Answer, TakesLook, answer_to, asked_by, by_answer, made_by}
+use Rattle.rtsp_text.proofs.MessageUniqueness.{request_once}
 
 -- the room that a session has lost is that of the looks that were asked for
 abbrev Keeps : ℕ → SessionState → SessionState → Type 0
@@ -26,28 +25,9 @@ Keeps looks old new = old.looks_left ≤ new.looks_left + looks
 same_room : (old new : SessionState) → new.looks_left ≡ old.looks_left → Keeps 0 old new
 same_room old new is = omega (arith, is)
 
--- what was asked of the station, and the room left by it
-left_room : {asked : Ask} (h : HeardMessage) → h.ask ≡ asked → h.old.looks_left ≤ h.new.looks_left + looks_in asked
-    → Keeps (looks_in h.ask) h.old h.new
-left_room h command kept = subst (λ a. Keeps (looks_in a) h.old h.new) (sym command) kept
-
-answer_room : (h : HeardMessage) → Answer h → Keeps (looks_in h.ask) h.old h.new
-answer_room h (Replies reply is) = left_room h is.0 (same_room h.old h.new (ap (λ (s : SessionState). s.looks_left) is.1))
-answer_room h (SetsUp film taken setup asks is) =
-    left_room h is.0 (same_room h.old h.new (ap (λ (s : SessionState). s.looks_left) is.1))
-answer_room h (StartsPlay play planned asks planned_is) =
-    left_room h asks.command (same_room h.old h.new (ap (λ (s : SessionState). s.looks_left) asks.state))
-answer_room h (HaltsPlay taken hand is) =
-    left_room h is.asks.command (same_room h.old h.new (ap (λ (s : SessionState). s.looks_left) is.asks.state))
-answer_room h (StopsPlay taken hand is) =
-    left_room h is.command (same_room h.old h.new (ap (λ (s : SessionState). s.looks_left) is.state))
-answer_room h (EndsSession taken is) =
-    left_room h is.0 (same_room h.old h.new (ap (λ (s : SessionState). s.looks_left) is.1))
-answer_room h (TakesLook taken look) =
-    let left : h.new.looks_left ≡ h.old.looks_left - 1 = ap (λ (s : SessionState). s.looks_left) look.state in
-    left_room h look.command (omega (arith, left))
-answer_room h (SeeksOffer offer planned is asks) =
-    left_room h asks.command (same_room h.old h.new (ap (λ (s : SessionState). s.looks_left) asks.state))
+answer_room : {h : HeardMessage} (answer : Answer h) → Keeps (looks_in (asked_by answer)) h.old (made_by answer)
+answer_room (TakesLook taken look) = omega arith
+answer_room _ = omega arith
 
 sent_room : (b : Bool) (standing : SessionState) → (cond b (sent_reply standing) standing).looks_left ≡
     standing.looks_left
@@ -63,7 +43,8 @@ slot_room false sending old slot = refl
 
 happening_room : (old : SessionState) (happening : SessionEvent) (new : SessionState) → IsAfter old happening new
     → Keeps (looks_of happening) old new
-happening_room old (Message message ask) new is = answer_room (heard_by is) (answer_to (heard_by is))
+happening_room old (Message message ask) new is =
+    let answer = answer_to (heard_by is) in by_answer (λ a s. Keeps (looks_in a) old s) answer (answer_room answer)
 happening_room old (Slot slot) new is =
     same_room old new (ap (λ (s : SessionState). s.looks_left) is ∙ slot_room (is_taken old slot)
     (is_sending old.state) old slot)
@@ -83,12 +64,11 @@ all_room (happening ∷ rest) old new is =
 never_lacks : (old : SessionState) (message : List ℕ) → 0 < old.looks_left → AsksBooked message
     → ¬ MayRunOutOfMemory old message
 never_lacks old message some is (inl play) =
-    let same = same_request message is.request play.play.request is.is_request play.play.is_request in
-    let no : ⊥ = cc (same.parts.method_is, is.method, play.play.method_is) in no
+    let same = request_once play.play.is_request is.is_request in
+    let no : ⊥ = cc (same.method_is, is.method, play.play.method_is) in no
 never_lacks old message some is (inr (inl offer)) =
-    let same = same_request message is.request offer.request is.is_request offer.offer.is_request in
     let body : IsWord (codes "x-Offer") is.request.body.now =
-    subst (λ (b : List ℕ). IsWord (codes "x-Offer") b) same.parts.body_is offer.offer.body in
+    subst (IsWord (codes "x-Offer")) (request_once offer.offer.is_request is.is_request).body_is offer.offer.body in
     let topics : OfferTopic ≡ Booked = topic_once is.request.body.now Booked OfferTopic is.body body in
     let no : ⊥ = cc in no
 never_lacks old message some is (inr (inr look)) = let none = look.none in omega (arith, some, none)

@@ -54,7 +54,7 @@ use Rattle.film_streams.specs.SettingRanges.{AreFilms}
 use Rattle.film_streams.specs.Setups.{IsSetupRead, AreChannelsOf, HasChannels, IsChosen}
 use Rattle.session.specs.SessionStates.{SessionState, has_session_in, with_reply}
 use Rattle.session.proofs.InitialStateLemmas.{HeardMessage, PlayInHand}
-use Rattle.session_laws.proofs.RequestReadings.{TakenUp, taken_up, AreAlike}
+use Rattle.session_laws.proofs.RequestReadings.{TakenUp, as_read, taken_up}
 use Rattle.session_laws.proofs.OfferLemmas.{least_told, offer_asked, wait_in}
 use Rattle.session_laws.proofs.PauseTeardownLemmas.{session_told}
 use Rattle.session_laws.proofs.PlanUniqueness.{film_at_once, plan_or_none}
@@ -110,14 +110,6 @@ text_by : {new : SessionState} {ask : Ask} (old : SessionState) (text : List ℕ
     → new.text ≡ text
 text_by old text is = ap (λ (s : SessionState). s.text) is.1
 
--- a request that is alike, by its number
-refused_alike : {request other : Request} (h : HeardMessage) (refusal : Refusal) → AreAlike request other
-    → IsRefused h.old (Some other.sequence) refusal [] h.ask h.new
-    → IsRefusedBy h.old (code_of refusal) request.sequence h.ask h.new
-refused_alike {other} h refusal alike is =
-    subst (λ n. IsRefusedBy h.old (code_of refusal) n h.ask h.new) alike.parts.sequence_is
-    (refused_as h other.sequence refusal [] is)
-
 -- ---- OPTIONS
 
 pub options_answered : (h : HeardMessage) (request : Request) → IsPlainMessage h.message (codes "OPTIONS") request
@@ -128,12 +120,9 @@ options_answered h request plain =
       film = inl refl;
       state = tt;
     }) in
-    let is : IsReplied h.old (public_text t.other.sequence) h.ask h.new = t.does in
     record {
-      alone = alone_by is;
-      told = subst (λ (x : List ℕ). IsPublicTold request.sequence x)
-          (ap public_text (sym t.alike.parts.sequence_is) ∙ sym (text_by h.old (public_text t.other.sequence) is))
-          (public_told request.sequence);
+      alone = alone_by t.does;
+      told = rw (text_by h.old (public_text request.sequence) t.does) (public_told request.sequence);
     }
 
 -- ---- DESCRIBE
@@ -141,24 +130,21 @@ options_answered h request plain =
 described : (h : HeardMessage) (request : Request) → TakenUp h request Describe
     → IsFilmDescribed h.old request h.ask h.new
 described h request t =
-    let authority = t.does.0 in
     let film = t.does.1.0 in
     let named = t.does.1.1.0.named in
-    let describes : Describes h.old t.other.sequence film authority h.ask h.new = t.does.1.1.1 in
+    let describes = t.does.1.1.1 in
     let stored : describes.stored ≡ named.film.stored =
     film_at_once h.old.films film named.film.stored describes.stored named.film.at describes.at in
     let name : string_bytes describes.stored.name ≡ named.name =
     ap (λ (s : Stored). string_bytes s.name) stored ∙ named.film.name_is in
     record {
       alone = alone_by describes.reply;
-      authority = authority;
+      authority = t.does.0;
       film = film;
       stored = describes.stored;
-      named = subst (λ (u : List ℕ). Names h.old.films u authority film) t.alike.parts.url_is named;
+      named = named;
       at = describes.at;
-      told = λ short. subst (λ n. IsDescribeReply n authority (string_bytes describes.stored.name)
-          describes.stored.film h.new.text) t.alike.parts.sequence_is (film_told describes named.read
-          (ap good_name name ∙ named.read.name_is.good) short);
+      told = film_told describes named.read (ap good_name name ∙ named.read.name_is.good);
     }
 
 pub film_described : (h : HeardMessage) (request : Request) → IsDescribeRequest h.old h.message request
@@ -218,24 +204,20 @@ setup_taken h request asked =
 -- what is read of a SETUP is done
 setup_read : (h : HeardMessage) (request : Request) (read : Result Setup Refusal)
     (t : TakenUp h request SetupMethod) → IsSetupRead h.old.settings request.head.now t.does.1.0 read
-    → IsSetUp h.old t.other.sequence read h.ask h.new
+    → IsSetUp h.old request.sequence read h.ask h.new
 setup_read h request read t is =
-    let sets : SetsUp h.old t.other t.does.1.0 h.ask h.new = t.does.1.1.1 in
-    let own : IsSetupRead h.old.settings request.head.now t.does.1.0 sets.read =
-    subst (λ (x : List ℕ). IsSetupRead h.old.settings x t.does.1.0 sets.read) t.alike.parts.head_is sets.is_read in
-    subst (λ (r : Result Setup Refusal). IsSetUp h.old t.other.sequence r h.ask h.new)
+    let sets = t.does.1.1.1 in
+    subst (λ (r : Result Setup Refusal). IsSetUp h.old request.sequence r h.ask h.new)
     (sym (read_once (record { settings = h.old.settings; head = request.head.now; film = t.does.1.0 }) sets.read read
-    own is)) sets.done
+    sets.is_read is)) sets.done
 
 pub setup_answered : (h : HeardMessage) (request : Request) (setup : Setup) → AreFilms h.old.films
     → (asked : AskedSetup h request) → SettlesSetup h.old.settings request.head.now asked.film setup
     → IsSetupAnswered h.old request.sequence setup h.ask h.new
 setup_answered h request setup films asked settles =
     let t = setup_taken h request asked in
-    let named : Names h.old.films request.url.now t.does.0 t.does.1.0 =
-    subst (λ (u : List ℕ). Names h.old.films u t.does.0 t.does.1.0) t.alike.parts.url_is t.does.1.1.0.named in
-    let same = names_once films named asked.is.named in
-    let is : IsSetUp h.old t.other.sequence (Ok setup) h.ask h.new = setup_read h request (Ok setup) t (record {
+    let same = names_once films t.does.1.1.0.named asked.is.named in
+    let is : IsSetUp h.old request.sequence (Ok setup) h.ask h.new = setup_read h request (Ok setup) t (record {
       film_is = settles.film_is ∙ same.film_is;
       channels = has_channels settles.channels;
       buffer = chosen h.old.settings.buffer 1 MAX_BYTES setup.buffer
@@ -247,23 +229,22 @@ setup_answered h request setup films asked settles =
       command = is.0;
       ready = is.1 ∙ ap (λ (x : List ℕ). record (with_reply h.old x) { state = Ready setup None })
           (sym (ap (λ (s : SessionState). s.text) is.1));
-      told = subst (λ n. IsSetupReply n (identity_of h.old.source setup h.old.counts) h.old.id h.new.text)
-          t.alike.parts.sequence_is (setup_told h.old h.new t.other.sequence setup h.old.counts is);
+      told = setup_told h.old h.new request.sequence setup h.old.counts is;
     }
 
 pub setup_transport : (h : HeardMessage) (request : Request) → AskedSetup h request
     → ((channels : Channels) → ¬ GivesChannels request.head.now channels)
     → IsRefusedBy h.old 461 request.sequence h.ask h.new
 setup_transport h request asked none =
-    let t = setup_taken h request asked in
-    refused_alike h Transport t.alike
-    (setup_read h request (Err Transport) t (λ channels has. none channels (gives_channels has)))
+    refused_as h request.sequence Transport []
+    (setup_read h request (Err Transport) (setup_taken h request asked)
+    (λ channels has. none channels (gives_channels has)))
 
 pub setup_number : (h : HeardMessage) (request : Request) → AskedSetup h request
     → HasBadNumber h.old.settings request.head.now → IsRefusedBy h.old 451 request.sequence h.ask h.new
 setup_number h request asked bad =
-    let t = setup_taken h request asked in
-    refused_alike h Parameter t.alike (setup_read h request (Err Parameter) t (record {
+    refused_as h request.sequence Parameter []
+    (setup_read h request (Err Parameter) (setup_taken h request asked) (record {
       channels = (bad.channels, has_channels bad.given);
       none = elim bad.bad [
         | inl buffer ↦ inl (λ n has. buffer n (unchosen h.old.settings.buffer 1 MAX_BYTES n
@@ -292,31 +273,12 @@ pub play_confirmed : (h : HeardMessage) (request : Request) (hand : PlayInHand h
     → IsPlayConfirmed h.old request.sequence h.ask h.new
 play_confirmed h request hand is no_range =
     let t = play_taken h request hand.setup is (ap setup_in hand.playing) (λ now. ap is_some no_range) in
-    let done : IsReplied h.old (session_text t.other.sequence h.old.id) h.ask h.new =
-    subst (λ (s : State). Plays s h.old t.other t.does.0 h.ask h.new) hand.playing t.does.1.1.1 in
+    let done : IsReplied h.old (session_text request.sequence h.old.id) h.ask h.new =
+    subst (λ (s : State). Plays s h.old (as_read t.place request) t.does.0 h.ask h.new) hand.playing t.does.1.1.1 in
     record {
       alone = alone_by done;
-      told = subst (λ (x : List ℕ). HasSessionInReply request.sequence h.old.id x)
-          (ap (λ n. session_text n h.old.id) (sym t.alike.parts.sequence_is)
-          ∙ sym (text_by h.old (session_text t.other.sequence h.old.id) done))
-          (session_told request.sequence h.old.id);
+      told = rw (text_by h.old (session_text request.sequence h.old.id) done) (session_told request.sequence h.old.id);
     }
-
--- why there is no plan
-pub data CurveCause (refusal : Refusal) : Type 0 where
-  IsRange : refusal ≡ Range → CurveCause refusal
-  IsBuffer : (least : ℕ) → refusal ≡ Buffer least → CurveCause refusal
-  IsMemory : refusal ≡ Memory → CurveCause refusal
-
-pub curve_cause : (refused : CurveRefused) → CurveCause (curve_refusal refused)
-curve_cause (Fault (BufferTooSmall slot used least)) = IsBuffer least refl
-curve_cause (Fault _) = IsRange refl
-curve_cause CurveMemory = IsMemory refl
-
-pub cause_as : {one other : Refusal} → other ≡ one → CurveCause one → CurveCause other
-cause_as same (IsRange is) = IsRange (same ∙ is)
-cause_as same (IsBuffer least is) = IsBuffer least (same ∙ is)
-cause_as same (IsMemory is) = IsMemory (same ∙ is)
 
 -- a plan that a request needs, for the run that it asks for
 record NeededPlan : Type 0 where
@@ -328,39 +290,30 @@ record NeededPlan : Type 0 where
 abbrev PlanRefused : HeardMessage → NeededPlan → Type 0
 PlanRefused h plan = PlanRefusal h.old plan.setup plan.paused plan.range plan.sequence h.ask h.new
 
-by_cause : (h : HeardMessage) (plan : NeededPlan) (refusal : Refusal)
-    → HasNoPlan h.old plan.setup plan.paused plan.range refusal
-    → IsRefused h.old (Some plan.sequence) refusal [] h.ask h.new → CurveCause refusal → PlanRefused h plan
-by_cause h plan refusal none is (IsRange same) = NoCurves (record {
-  why = subst (λ (r : Refusal). HasNoPlan h.old plan.setup plan.paused plan.range r) same none;
-  refused = refused_as h plan.sequence Range []
-      (subst (λ (r : Refusal). IsRefused h.old (Some plan.sequence) r [] h.ask h.new) same is);
+by_cause : (h : HeardMessage) (plan : NeededPlan) (refused : CurveRefused)
+    → HasNoPlan h.old plan.setup plan.paused plan.range (curve_refusal refused)
+    → IsRefused h.old (Some plan.sequence) (curve_refusal refused) [] h.ask h.new → PlanRefused h plan
+by_cause h plan (Fault (BufferTooSmall slot used least)) none is = SmallBuffer (record {
+  least = least;
+  why = none;
+  alone = alone_by is;
+  told = rw (text_by h.old (refusal_text (Some plan.sequence) (Buffer least) []) is)
+      (least_told (Some plan.sequence) least []);
 })
-by_cause h plan refusal none is (IsBuffer least same) =
-    let own : IsRefused h.old (Some plan.sequence) (Buffer least) [] h.ask h.new =
-    subst (λ (r : Refusal). IsRefused h.old (Some plan.sequence) r [] h.ask h.new) same is in
-    SmallBuffer (record {
-      least = least;
-      why = subst (λ (r : Refusal). HasNoPlan h.old plan.setup plan.paused plan.range r) same none;
-      alone = alone_by own;
-      told = subst (λ (x : List ℕ). IsLeastBufferReply (Some plan.sequence) least x)
-          (sym (text_by h.old (refusal_text (Some plan.sequence) (Buffer least) []) own))
-          (least_told (Some plan.sequence) least []);
-    })
-by_cause h plan refusal none is (IsMemory same) =
-    NoMemory (refused_as h plan.sequence Memory []
-    (subst (λ (r : Refusal). IsRefused h.old (Some plan.sequence) r [] h.ask h.new) same is))
+by_cause h plan CurveMemory none is = NoMemory (refused_as h plan.sequence Memory [] is)
+by_cause h plan _ none is = NoCurves (record { why = none; refused = refused_as h plan.sequence Range [] is })
 
 plan_refusal : (h : HeardMessage) (plan : NeededPlan) (refusal : Refusal)
     → IsPlanned h.old plan.setup plan.paused plan.range (Err refusal)
     → IsRefused h.old (Some plan.sequence) refusal [] h.ask h.new → PlanRefused h plan
 plan_refusal h plan refusal (inl none) is = NoMeaning (record {
   why = record { stored = none.stored; at = none.at; none = none.none };
-  refused = refused_as h plan.sequence Range []
-      (subst (λ (r : Refusal). IsRefused h.old (Some plan.sequence) r [] h.ask h.new) none.refusal_is is);
+  refused = refused_as h plan.sequence Range [] (rw none.refusal_is at is);
 })
 plan_refusal h plan refusal (inr none) is =
-    by_cause h plan refusal none is (cause_as none.refusal_is (curve_cause none.refused))
+    by_cause h plan none.refused
+    (subst (λ (r : Refusal). HasNoPlan h.old plan.setup plan.paused plan.range r) none.refusal_is none)
+    (subst (λ (r : Refusal). IsRefused h.old (Some plan.sequence) r [] h.ask h.new) none.refusal_is is)
 
 -- a request that is received in Ready
 pub record ReadyRequest (h : HeardMessage) : Type 0 where
@@ -374,13 +327,11 @@ abbrev range_of : Request → Option (List ℕ)
 range_of request = header_value request.head.now (codes "Range")
 
 record ReadyPlay (h : HeardMessage) (r : ReadyRequest h) : Type 0 where
-  other : Request
-  alike : AreAlike r.request other
   authority : List ℕ
   named : Names h.old.films r.request.url.now authority r.setup.film
   planned : Result Planned Refusal
   is_planned : IsPlanned h.old r.setup r.paused (range_of r.request) planned
-  asks : AsksPlayOr h.old (play_call other.sequence authority r.setup) planned h.ask h.new
+  asks : AsksPlayOr h.old (play_call r.request.sequence authority r.setup) planned h.ask h.new
 
 ready_play : (h : HeardMessage) (r : ReadyRequest h) → IsPlayRequest h.old h.message r.request r.setup → ReadyPlay h r
 ready_play h r is =
@@ -388,49 +339,34 @@ ready_play h r is =
     (λ now. let ready = r.ready in absurd (let no : ⊥ = cc (ready, now) in no)) in
     let name = t.does.0 in
     let on = t.does.1.1.0 in
-    let done : PlaysReady h.old t.other name r.setup r.paused h.ask h.new =
-    subst (λ (s : State). Plays s h.old t.other name h.ask h.new) r.ready t.does.1.1.1 in
-    let film : t.does.1.0 ≡ r.setup.film = film_of h.old.state r.setup t.does.1.0 (ap setup_in r.ready) on.own in
+    let done : PlaysReady h.old (as_read t.place r.request) name r.setup r.paused h.ask h.new =
+    subst (λ (s : State). Plays s h.old (as_read t.place r.request) name h.ask h.new) r.ready t.does.1.1.1 in
     record {
-      other = t.other;
-      alike = t.alike;
       authority = name;
-      named = subst (λ n. Names h.old.films r.request.url.now name n) film
-          (subst (λ (u : List ℕ). Names h.old.films u name t.does.1.0) t.alike.parts.url_is on.named);
+      named = subst (λ n. Names h.old.films r.request.url.now name n)
+          (film_of h.old.state r.setup t.does.1.0 (ap setup_in r.ready) on.own) on.named;
       planned = done.planned;
-      is_planned = subst (λ (x : List ℕ). IsPlanned h.old r.setup r.paused (header_value x (codes "Range"))
-          done.planned) t.alike.parts.head_is done.is_planned;
+      is_planned = done.is_planned;
       asks = done.asks;
     }
 
 -- one that was planned: the station is asked for the play
 planned_asks : {h : HeardMessage} {r : ReadyRequest h} {planned : Planned} (p : ReadyPlay h r)
     → IsPlanned h.old r.setup r.paused (range_of r.request) (Ok planned)
-    → AsksPlay h.old p.other.sequence p.authority r.setup planned h.ask h.new
+    → AsksPlay h.old r.request.sequence p.authority r.setup planned h.ask h.new
     → IsPlayAskedOf h.old r.request r.setup r.paused h.ask h.new
-planned_asks {h} {r} {planned} p is asks =
-    let film : asks.stored ≡ is.0 = film_at_once h.old.films r.setup.film is.0 asks.stored is.1.at asks.at in
-    let F : Stored → ℕ → SessionState = λ s n. record h.old {
-      awaited = ToAwaitPlay (prepared_of h.old s r.setup planned n);
-      text = play_front h.old s r.setup planned n p.authority;
-    } in
-    record {
-      stored = is.0;
-      planned = planned;
-      authority = p.authority;
-      planned_is = is.1;
-      named = p.named;
-      command = asks.command;
-      leaves = asks.state ∙ ap (λ (s : Stored). F s p.other.sequence) film ∙ ap (F is.0) p.alike.parts.sequence_is;
-    }
-
--- and memory may run out
-planned_done : {h : HeardMessage} {r : ReadyRequest h} {planned : Planned} (p : ReadyPlay h r)
-    → IsPlanned h.old r.setup r.paused (range_of r.request) (Ok planned)
-    → AsksPlayOr h.old (play_call p.other.sequence p.authority r.setup) (Ok planned) h.ask h.new
-    → IsPlayAskedOf h.old r.request r.setup r.paused h.ask h.new ⊎ IsRefusedBy h.old 500 r.request.sequence h.ask h.new
-planned_done p is (inl asks) = inl (planned_asks p is asks)
-planned_done {h} p is (inr refused) = inr (refused_alike h Memory p.alike refused)
+planned_asks {h} {r} {planned} p is asks = record {
+  stored = is.0;
+  planned = planned;
+  authority = p.authority;
+  planned_is = is.1;
+  named = p.named;
+  command = asks.command;
+  leaves = asks.state ∙ ap (λ (s : Stored). record h.old {
+    awaited = ToAwaitPlay (prepared_of h.old s r.setup planned r.request.sequence);
+    text = play_front h.old s r.setup planned r.request.sequence p.authority;
+  }) (film_at_once h.old.films r.setup.film is.0 asks.stored is.1.at asks.at);
+}
 
 pub play_ready : (h : HeardMessage) (r : ReadyRequest h)
     → IsPlayRequest h.old h.message r.request r.setup → IsPlayAskedOf h.old r.request r.setup r.paused h.ask h.new
@@ -439,17 +375,16 @@ play_ready h r is =
     let p = ready_play h r is in
     let range = range_of r.request in
     (elim p.planned as (λ found. IsPlanned h.old r.setup r.paused range found
-    → AsksPlayOr h.old (play_call p.other.sequence p.authority r.setup) found h.ask h.new
+    → AsksPlayOr h.old (play_call r.request.sequence p.authority r.setup) found h.ask h.new
     → IsPlayAskedOf h.old r.request r.setup r.paused h.ask h.new
     ⊎ PlanRefusal h.old r.setup r.paused range r.request.sequence h.ask h.new) [
-      | Ok planned ↦ λ its asks. elim (planned_done p its asks) [
-        | inl asked ↦ inl asked
-        | inr refused ↦ inr (NoMemory refused)
+      | Ok planned ↦ λ its asks. elim asks [
+        | inl asked ↦ inl (planned_asks p its asked)
+        | inr refused ↦ inr (NoMemory (refused_as h r.request.sequence Memory [] refused))
       ]
-      | Err refusal ↦ λ its refused.
-          inr (subst (λ n. PlanRefusal h.old r.setup r.paused range n h.ask h.new) p.alike.parts.sequence_is
-          (plan_refusal h (record { setup = r.setup; paused = r.paused; range = range; sequence = p.other.sequence })
-          refusal its refused))
+      | Err refusal ↦ λ its refused. inr (plan_refusal h
+          (record { setup = r.setup; paused = r.paused; range = range; sequence = r.request.sequence })
+          refusal its refused)
     ]) p.is_planned p.asks
 
 -- one that can be planned asks the station for the play, or memory runs out
@@ -461,14 +396,17 @@ play_asked {given} h r is run =
     let p = ready_play h r is in
     let range = range_of r.request in
     (elim p.planned as (λ found. IsPlanned h.old r.setup r.paused range found
-    → AsksPlayOr h.old (play_call p.other.sequence p.authority r.setup) found h.ask h.new
+    → AsksPlayOr h.old (play_call r.request.sequence p.authority r.setup) found h.ask h.new
     → IsPlayAskedOf h.old r.request r.setup r.paused h.ask h.new ⊎ IsRefusedBy h.old 500 r.request.sequence h.ask h.new) [
-      | Ok planned ↦ λ its asks. planned_done p its asks
+      | Ok planned ↦ λ its asks. elim asks [
+        | inl asked ↦ inl (planned_asks p its asked)
+        | inr refused ↦ inr (refused_as h r.request.sequence Memory [] refused)
+      ]
       | Err refusal ↦ λ its refused.
           let memory = plan_or_none (record { old = h.old; setup = r.setup; paused = r.paused; range = range }) given
           refusal run its in
-          inr (refused_alike h Memory p.alike
-          (subst (λ (x : Refusal). IsRefused h.old (Some p.other.sequence) x [] h.ask h.new) memory refused))
+          inr (refused_as h r.request.sequence Memory []
+          (subst (λ (x : Refusal). IsRefused h.old (Some r.request.sequence) x [] h.ask h.new) memory refused))
     ]) p.is_planned p.asks
 
 -- ---- GET_PARAMETER
@@ -481,9 +419,8 @@ may_name old (inr names) = own_session (has_session_in old.state) ⊤ (exists_in
 
 -- a GET_PARAMETER is processed by its topic
 record TopicTaken (h : HeardMessage) (request : Request) (topic : Topic) : Type 0 where
-  pub other : Request
-  pub alike : AreAlike request other
-  pub gets : Gets h.old other topic h.ask h.new
+  pub place : Request
+  pub gets : Gets h.old (as_read place request) topic h.ask h.new
 
 topic_taken : (h : HeardMessage) (request : Request) (topic : Topic) → IsParameterRequest h.old h.message request
     → IsTopic request.body.now topic → TopicTaken h request topic
@@ -496,14 +433,10 @@ topic_taken h request topic is about =
       );
       state = tt;
     }) in
-    let gets : GetsParameter h.old up.other h.ask h.new = up.does in
-    let own : IsTopic request.body.now gets.topic =
-    subst (λ (b : List ℕ). IsTopic b gets.topic) up.alike.parts.body_is gets.is_topic in
     record {
-      other = up.other;
-      alike = up.alike;
-      gets = subst (λ (t : Topic). Gets h.old up.other t h.ask h.new)
-          (sym (topic_once request.body.now gets.topic topic own about)) gets.gets;
+      place = up.place;
+      gets = subst (λ (t : Topic). Gets h.old (as_read up.place request) t h.ask h.new)
+          (sym (topic_once request.body.now up.does.topic topic up.does.is_topic about)) up.does.gets;
     }
 
 pub parameter_alone : (h : HeardMessage) (request : Request) → IsParameterRequest h.old h.message request
@@ -513,31 +446,22 @@ parameter_alone h request is empty = alone_by (topic_taken h request Nothing is 
 pub parameter_empty : (h : HeardMessage) (request : Request) → IsParameterRequest h.old h.message request
     → request.body.now ≡ [] → h.new.text ≡ reply_text 200 (Some request.sequence) [] []
 parameter_empty h request is empty =
-    let t = topic_taken h request Nothing is empty in
-    text_by h.old (plain_text t.other.sequence) t.gets ∙ ap plain_text t.alike.parts.sequence_is
+    text_by h.old (plain_text request.sequence) (topic_taken h request Nothing is empty).gets
 
 pub parameter_unknown : (h : HeardMessage) (request : Request) → IsParameterRequest h.old h.message request
     → IsUnknownBody request.body.now → IsRefusedBy h.old 451 request.sequence h.ask h.new
 parameter_unknown h request is body =
-    let t = topic_taken h request OtherTopic is (body.some, body.no_look, body.no_offer) in
-    refused_alike h Parameter t.alike t.gets
-
-look_done : (h : HeardMessage) (n m : ℕ) → n ≡ m → Looks h.old n h.ask h.new
-    → IsLookAsked h.old m h.ask h.new ⊎ IsRefusedFor (h.old.looks_left ≡ 0) h.old 500 m h.ask h.new
-look_done h n m same (inl look) =
-    inl (subst (λ k. IsLookAsked h.old k h.ask h.new) same (record { command = look.command; leaves = look.state }))
-look_done h n m same (inr short) =
-    inr (record {
-      why = short.later;
-      refused = subst (λ k. IsRefusedBy h.old 500 k h.ask h.new) same (refused_as h n Memory [] short.refused);
-    })
+    refused_as h request.sequence Parameter []
+    (topic_taken h request OtherTopic is (body.some, body.no_look, body.no_offer)).gets
 
 pub parameter_look : (h : HeardMessage) (request : Request) → IsParameterRequest h.old h.message request
     → IsWord (codes "x-Booked") request.body.now → IsLookAsked h.old request.sequence h.ask h.new
     ⊎ IsRefusedFor (h.old.looks_left ≡ 0) h.old 500 request.sequence h.ask h.new
-parameter_look h request is body =
-    let t = topic_taken h request Booked is body in
-    look_done h t.other.sequence request.sequence t.alike.parts.sequence_is t.gets
+parameter_look h request is body = elim (topic_taken h request Booked is body).gets [
+  | inl look ↦ inl (record { command = look.command; leaves = look.state })
+  | inr short ↦
+      inr (record { why = short.later; refused = refused_as h request.sequence Memory [] short.refused })
+]
 
 -- a request for an offer
 pub record OfferRequest (h : HeardMessage) (request : Request) : Type 0 where
@@ -545,21 +469,21 @@ pub record OfferRequest (h : HeardMessage) (request : Request) : Type 0 where
   pub body : IsWord (codes "x-Offer") request.body.now
 
 -- it is processed, by the state
-offer_taken : {h : HeardMessage} {request : Request} {state : State} (t : TopicTaken h request OfferTopic)
-    → h.old.state ≡ state → GetsOffer state h.old t.other h.ask h.new
-offer_taken {h} t is = subst (λ (s : State). GetsOffer s h.old t.other h.ask h.new) is t.gets
+offer_taken : (h : HeardMessage) (request : Request) {state : State} → OfferRequest h request → h.old.state ≡ state
+    → (place : Request) × GetsOffer state h.old (as_read place request) h.ask h.new
+offer_taken h request offer is =
+    let t = topic_taken h request OfferTopic offer.is offer.body in
+    (t.place, subst (λ (s : State). GetsOffer s h.old (as_read t.place request) h.ask h.new) is t.gets)
 
 pub offer_no_session : (h : HeardMessage) (request : Request) → OfferRequest h request → h.old.state ≡ Init
     → IsRefusedBy h.old 454 request.sequence h.ask h.new
 offer_no_session h request offer init =
-    let t = topic_taken h request OfferTopic offer.is offer.body in
-    refused_alike h Session t.alike (offer_taken t init)
+    refused_as h request.sequence Session [] (offer_taken h request offer init).1
 
 pub offer_playing : (h : HeardMessage) (request : Request) → OfferRequest h request → PlayInHand h.old
     → IsRefusedBy h.old 455 request.sequence h.ask h.new
 offer_playing h request offer hand =
-    let t = topic_taken h request OfferTopic offer.is offer.body in
-    refused_alike h NotNow t.alike (offer_taken t hand.playing)
+    refused_as h request.sequence NotNow [] (offer_taken h request offer hand.playing).1
 
 has_wait : {head : List ℕ} {wait : ℕ} → IsWaitIn head wait → HasWait head wait
 has_wait {wait} is = subst (λ (v : Option (List ℕ)). IsWaitOf v wait) (sym is.named) (record {
@@ -571,11 +495,10 @@ has_wait {wait} is = subst (λ (v : Option (List ℕ)). IsWaitOf v wait) (sym is
 pub offer_no_wait : (h : HeardMessage) (r : ReadyRequest h) → OfferRequest h r.request
     → ((wait : ℕ) → ¬ IsWaitIn r.request.head.now wait) → IsRefusedBy h.old 451 r.request.sequence h.ask h.new
 offer_no_wait h r offer none =
-    let t = topic_taken h r.request OfferTopic offer.is offer.body in
-    elim (offer_taken t r.ready) [
-      | inl short ↦ refused_alike h Parameter t.alike short.refused
-      | inr offers ↦ absurd (none offers.wait (subst (λ (x : List ℕ). IsWaitIn x offers.wait) t.alike.parts.head_is
-          (wait_in t.other.head.now (header_value t.other.head.now (codes "x-Wait")) offers.wait refl offers.has_wait)))
+    elim (offer_taken h r.request offer r.ready).1 [
+      | inl short ↦ refused_as h r.request.sequence Parameter [] short.refused
+      | inr offers ↦ absurd (none offers.wait (wait_in r.request.head.now
+          (header_value r.request.head.now (codes "x-Wait")) offers.wait refl offers.has_wait))
     ]
 
 offers_done : {n wait : ℕ} {setup : Setup} {paused : Option Run} (h : HeardMessage)
@@ -602,14 +525,9 @@ pub offer_ready : (h : HeardMessage) (r : ReadyRequest h) (wait : ℕ) → Offer
     → IsWaitIn r.request.head.now wait → IsOfferAskedOf h.old h.message h.ask h.new
     ⊎ PlanRefusal h.old r.setup r.paused None r.request.sequence h.ask h.new
 offer_ready h r wait offer waits =
-    let t = topic_taken h r.request OfferTopic offer.is offer.body in
-    elim (offer_taken t r.ready) [
-      | inl short ↦
-          absurd (short.none wait
-          (has_wait (subst (λ (x : List ℕ). IsWaitIn x wait) (sym t.alike.parts.head_is) waits)))
-      | inr offers ↦
-          subst (λ n. IsOfferAskedOf h.old h.message h.ask h.new ⊎ PlanRefusal h.old r.setup r.paused None n h.ask h.new)
-          t.alike.parts.sequence_is (offers_done h offers.offers)
+    elim (offer_taken h r.request offer r.ready).1 [
+      | inl short ↦ absurd (short.none wait (has_wait waits))
+      | inr offers ↦ offers_done h offers.offers
     ]
 
 -- ---- another film

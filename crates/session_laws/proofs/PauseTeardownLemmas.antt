@@ -29,9 +29,8 @@ use Rattle.session.specs.SlotSteps.{after_play, is_between, is_done_in, is_sendi
 use Rattle.session.specs.SlotSteps.{sent_in, sent_reply, sent_slot, stepped_in}
 use Rattle.session.specs.SessionStates.{SessionState, is_playing_in}
 use Rattle.session.proofs.InitialStateLemmas.{Beginning, HeardMessage, heard_by}
-use Rattle.session.proofs.RequestCaseAnalysis.{Answer, Replies, SetsUp, StartsPlay, StopsPlay, TakesLook}
-use Rattle.session.proofs.RequestCaseAnalysis.{HaltsPlay as PausesIt, EndsSession as EndsAlone, SeeksOffer, answer_to}
-use Rattle.session.proofs.RequestCaseAnalysis.{is_teardown}
+use Rattle.session.proofs.RequestCaseAnalysis.{Answer, Replies, SetsUp, StopsPlay, EndsSession as EndsAlone, answer_to}
+use Rattle.session.proofs.RequestCaseAnalysis.{by_answer, is_teardown, made_by}
 use Rattle.session_laws.proofs.RequestReadings.{HeardMethod, IsStopped, IsTakenUp, TakenUp, heard_method, taken_up}
 use Rattle.session_laws.proofs.RefusalLawLemmas.{refused}
 
@@ -94,9 +93,9 @@ pauses_in h sequence _ is pauses = absurd pauses
 -- a message of a method is declined, or comes to what its request does
 declined_or : {h : HeardMessage} {request : Request} {m : Method} {P : Type 0} → HeardMethod h request m
     → (TakenUp h request m → P) → IsDeclined h.old h.ask h.new ⊎ P
-declined_or {h} heard does = elim heard [
-  | IsStopped other refusal alike judged done ↦
-      inl (refused h (Some other.sequence) refusal (option_of other.head.now) done)
+declined_or {h} {request} heard does = elim heard [
+  | IsStopped refusal place judged done ↦
+      inl (refused h (Some request.sequence) refusal (option_of request.head.now) done)
   | IsTakenUp up ↦ inr (does up)
 ]
 
@@ -105,14 +104,14 @@ pub teardown_ends : (old new : SessionState) (message : List ℕ) (ask : Ask) �
 teardown_ends old new message ask is hears =
     let h : HeardMessage = heard_by hears in
     declined_or (heard_method h is.request Teardown is.is_request is.method_is)
-    (λ (up : TakenUp h is.request Teardown). tears_in h up.other.sequence old.state refl up.does)
+    (λ (up : TakenUp h is.request Teardown). tears_in h is.request.sequence old.state refl up.does)
 
 pub pause_leaves : (old new : SessionState) (message : List ℕ) (ask : Ask) → IsPause message → Hears old message ask new
     → IsDeclined old ask new ⊎ IsPausedPlay old ask new
 pause_leaves old new message ask is hears =
     let h : HeardMessage = heard_by hears in
     declined_or (heard_method h is.request Pause is.is_request is.method_is)
-    (λ (up : TakenUp h is.request Pause). pauses_in h up.other.sequence old.state refl up.does)
+    (λ (up : TakenUp h is.request Pause). pauses_in h is.request.sequence old.state refl up.does)
 
 -- a request of a method that nothing refuses
 good_up : {m : Method} {request : Request} (h : HeardMessage) → IsReadAs h.message request
@@ -123,15 +122,14 @@ pub teardown_taken : (old new : SessionState) (message : List ℕ) (ask : Ask) �
     → Hears old message ask new → IsTornDown old ask new
 teardown_taken old new message ask can hears =
     let h : HeardMessage = heard_by hears in
-    let up = good_up {m = Teardown} h can.is_request can.good tt in
-    tears_in h up.other.sequence old.state refl up.does
+    tears_in h can.request.sequence old.state refl (good_up {m = Teardown} h can.is_request can.good tt).does
 
 pub pause_taken : (old new : SessionState) (message : List ℕ) (ask : Ask) → CanBePaused old message
     → Hears old message ask new → IsPausedPlay old ask new
 pause_taken old new message ask can hears =
     let h : HeardMessage = heard_by hears in
-    let up = good_up {m = Pause} h can.is_request can.good (ap is_playing_in can.playing) in
-    pauses_in h up.other.sequence old.state refl up.does
+    pauses_in h can.request.sequence old.state refl
+    (good_up {m = Pause} h can.is_request can.good (ap is_playing_in can.playing)).does
 
 -- ---- only a TEARDOWN ends the session
 
@@ -150,15 +148,14 @@ same_calm : {old new made : SessionState} → IsCalm old → new ≡ made → ma
 same_calm calm is tearing torn awaited =
     subst IsCalm (sym is) (record { tearing = tearing ∙ calm.tearing; torn = torn ∙ calm.torn; awaited = awaited })
 
-answer_calm : (h : HeardMessage) → IsCalm h.old → Answer h → IsTeardown h.message ⊎ IsCalm h.new
-answer_calm h calm (Replies reply is) = inr (same_calm calm is.1 refl refl calm.awaited)
-answer_calm h calm (SetsUp film taken setup asks is) = inr (same_calm calm is.1 refl refl calm.awaited)
-answer_calm h calm (StartsPlay play planned asks planned_is) = inr (same_calm calm asks.state refl refl refl)
-answer_calm h calm (PausesIt taken hand is) = inr (same_calm calm is.asks.state refl refl refl)
-answer_calm h calm (StopsPlay taken hand is) = inl (is_teardown taken)
-answer_calm h calm (EndsAlone taken is) = inl (is_teardown taken)
-answer_calm h calm (TakesLook taken look) = inr (same_calm calm look.state refl refl refl)
-answer_calm h calm (SeeksOffer offer planned is asks) = inr (same_calm calm asks.state refl refl refl)
+answer_calm : {h : HeardMessage} (answer : Answer h) → IsCalm h.old → IsTeardown h.message ⊎ IsCalm (made_by answer)
+answer_calm (Replies reply is) calm =
+    inr (record { tearing = calm.tearing; torn = calm.torn; awaited = calm.awaited })
+answer_calm (SetsUp film taken setup asks is) calm =
+    inr (record { tearing = calm.tearing; torn = calm.torn; awaited = calm.awaited })
+answer_calm (StopsPlay taken hand is) calm = inl (is_teardown taken)
+answer_calm (EndsAlone taken is) calm = inl (is_teardown taken)
+answer_calm _ calm = inr (record { tearing = calm.tearing; torn = calm.torn; awaited = refl })
 
 halt_calm : (old : SessionState) (place : ℕ) → IsCalm old → IsCalm (after_halt old place)
 halt_calm old place calm = record {
@@ -198,7 +195,9 @@ slot_calm false sending old slot calm = calm
 happening_calm : (old : SessionState) (happening : SessionEvent) (new : SessionState) → IsAfter old happening new →
     IsCalm old
     → IsTeardownHeard happening ⊎ IsCalm new
-happening_calm old (Message message ask) new is calm = answer_calm (heard_by is) calm (answer_to (heard_by is))
+happening_calm old (Message message ask) new is calm =
+    let answer = answer_to (heard_by is) in
+    by_answer (λ a s. IsTeardown message ⊎ IsCalm s) answer (answer_calm answer calm)
 happening_calm old (Halt place) new is calm = inr (subst IsCalm (sym is) (halt_calm old place calm))
 happening_calm old (Slot slot) new is calm =
     inr (subst IsCalm (sym is) (slot_calm (is_taken old slot) (is_sending old.state) old slot calm))

@@ -9,8 +9,7 @@ use Rattle.session.specs.Methods.{prepared_of, AsksPlay}
 use Rattle.session.specs.RequestedPlans.{IsPlannedRun}
 use Rattle.session.specs.SessionStates.{SessionState}
 use Rattle.session.proofs.InitialStateLemmas.{HeardMessage}
-use Rattle.session.proofs.RequestCaseAnalysis.{Answer, Replies, SetsUp, StartsPlay, HaltsPlay, StopsPlay, EndsSession}
-use Rattle.session.proofs.RequestCaseAnalysis.{TakesLook, SeeksOffer, ReadyPlay, answer_to}
+use Rattle.session.proofs.RequestCaseAnalysis.{Answer, StartsPlay, ReadyPlay, answer_to, by_answer, made_by}
 
 -- the station is asked for a play
 pub record PlayStarted (h : HeardMessage) : Type 0 where
@@ -25,33 +24,16 @@ pub record AwaitsPlay (h : HeardMessage) (prepared : Prepared) : Type 0 where
   pub rest : h.old.awaited ≡ Nothing
   pub asks : h.new.awaited ≡ Play prepared
 
--- where something else is awaited
-otherwise : {h : HeardMessage} {prepared : Prepared} {awaited : Awaited} → AwaitsPlay h prepared
-    → h.new.awaited ≡ awaited → awaited ≡ Play prepared
-otherwise waits is = sym is ∙ waits.asks
-
-unchanged : {h : HeardMessage} {prepared : Prepared} → AwaitsPlay h prepared → h.new.awaited ≡ h.old.awaited → ⊥
-unchanged {h} {prepared} waits is =
-    let no : Nothing ≡ Play prepared = otherwise {h = h} waits (is ∙ waits.rest) in let clash : ⊥ = cc in clash
-
-started_by : (h : HeardMessage) {prepared : Prepared} → AwaitsPlay h prepared → Answer h → PlayStarted h
-started_by h waits (Replies reply is) = absurd (unchanged {h = h} waits (ap (λ (s : SessionState). s.awaited) is.1))
-started_by h waits (SetsUp film taken setup asks is) =
-    absurd (unchanged {h = h} waits (ap (λ (s : SessionState). s.awaited) is.1))
-started_by h waits (StartsPlay play planned asks planned_is) =
+started_by : {h : HeardMessage} {prepared : Prepared} (answer : Answer h) → h.old.awaited ≡ Nothing
+    → (made_by answer).awaited ≡ Play prepared → PlayStarted h
+started_by (StartsPlay play planned asks planned_is) rest awaits =
     record { play = play; planned = planned; asks = asks; planned_is = planned_is }
-started_by h waits (HaltsPlay taken hand is) =
-    absurd (let no : ⊥ = cc (otherwise {h = h} waits (ap (λ (s : SessionState). s.awaited) is.asks.state)) in no)
-started_by h waits (StopsPlay taken hand is) =
-    absurd (let no : ⊥ = cc (otherwise {h = h} waits (ap (λ (s : SessionState). s.awaited) is.state)) in no)
-started_by h waits (EndsSession taken is) = absurd (unchanged {h = h} waits (ap (λ (s : SessionState). s.awaited) is.1))
-started_by h waits (TakesLook taken look) =
-    absurd (let no : ⊥ = cc (otherwise {h = h} waits (ap (λ (s : SessionState). s.awaited) look.state)) in no)
-started_by h waits (SeeksOffer offer planned is asks) =
-    absurd (let no : ⊥ = cc (otherwise {h = h} waits (ap (λ (s : SessionState). s.awaited) asks.state)) in no)
+started_by _ rest awaits = absurd (let no : ⊥ = cc in no)
 
 pub play_started : (h : HeardMessage) {prepared : Prepared} → AwaitsPlay h prepared → PlayStarted h
-play_started h waits = started_by h waits (answer_to h)
+play_started h {prepared} waits =
+    let answer = answer_to h in
+    by_answer (λ a s. s.awaited ≡ Play prepared → PlayStarted h) answer (started_by answer waits.rest) waits.asks
 
 play_same : (one other : Prepared) → Play one ≡ Play other → one ≡ other
 play_same one other same = cc

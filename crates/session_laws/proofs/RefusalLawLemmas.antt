@@ -38,7 +38,7 @@ use Rattle.session.specs.RunRequests.{IsRequestFor, run_of}
 use Rattle.session.specs.SessionStates.{SessionState, with_reply, is_playing_in}
 use Rattle.session.proofs.InitialStateLemmas.{HeardMessage, heard_by}
 use Rattle.session.proofs.ResumedPlayLemmas.{span_of_once}
-use Rattle.session_laws.proofs.RequestReadings.{reading_of, refused_in, IsStopped, IsTakenUp, heard_method}
+use Rattle.session_laws.proofs.RequestReadings.{refused_in, IsStopped, IsTakenUp, heard_method}
 use Rattle.session_laws.proofs.RtpNumberLemmas.{goes_on_from_now}
 use Rattle.session.specs.RequestEffects.{HasCode}
 use Rattle.session.proofs.ReplyCodeLemmas.{one_code, own_code, refusal_code}
@@ -73,9 +73,7 @@ pub refused_by : (r : HeardRequest) (refusal : Refusal)
     → IsJudged r.heard.old.films r.heard.old.id r.heard.old.state r.request (Err refusal)
     → IsRefusedBy r.heard.old (code_of refusal) r.request.sequence r.heard.ask r.heard.new
 refused_by r refusal own =
-    let its = reading_of r.heard r.request r.is in
-    subst (λ n. IsRefusedBy r.heard.old (code_of refusal) n r.heard.ask r.heard.new) its.alike.parts.sequence_is
-    (refused_as r.heard its.other.sequence refusal (option_of its.other.head.now) (refused_in refusal its own))
+    refused_as r.heard r.request.sequence refusal (option_of r.request.head.now) (refused_in r.heard r.request refusal r.is own)
 
 pub unknown_refused : (r : HeardRequest) → ¬ IsKnownMethod r.request
     → IsRefusedBy r.heard.old 501 r.request.sequence r.heard.ask r.heard.new
@@ -243,34 +241,31 @@ refused h sequence refusal option is =
     }
 
 -- in Playing a PLAY with a Range is untimely
-ranged_untimely : {request : Request} (h : HeardMessage) (other : Request) → HasRangeInPlaying h.old h.message request
-    → other.head.now ≡ request.head.now → ¬ IsTimely h.old.state other Play
-ranged_untimely h other is head = λ timely.
+ranged_untimely : {request : Request} (h : HeardMessage) → HasRangeInPlaying h.old h.message request
+    → ¬ IsTimely h.old.state request Play
+ranged_untimely h is = λ timely.
     let none = timely (ap is_playing_in is.playing) in
-    let some = ap (λ (x : List ℕ). is_some (header_value x (codes "Range"))) head ∙ ap is_some is.range in
-    let no : ⊥ = cc (none, some) in no
+    let no : ⊥ = cc (none, ap is_some is.range) in no
 
 pub range_refused : {request : Request} (heard : HeardMessage) → HasRangeInPlaying heard.old heard.message request
     → IsDeclined heard.old heard.ask heard.new
 range_refused {request} heard is =
     elim (heard_method heard request Play is.is_request is.method) [
-      | IsStopped other refusal alike judged done ↦
-          refused heard (Some other.sequence) refusal (option_of other.head.now) done
-      | IsTakenUp up ↦ absurd (ranged_untimely heard up.other is up.alike.parts.head_is up.timely)
+      | IsStopped refusal place judged done ↦
+          refused heard (Some request.sequence) refusal (option_of request.head.now) done
+      | IsTakenUp up ↦ absurd (ranged_untimely heard is up.timely)
     ]
 
 -- its code, where no other refusal comes before
 pub range_455 : {request : Request} (heard : HeardMessage) → HasRangeInPlaying heard.old heard.message request
     → PassesEarlierChecks Play heard.old request → HasCode 455 heard.new.text
 range_455 {request} heard is good =
-    let r = reading_of heard request is.is_request in
-    let option = option_of r.other.head.now in
-    let done : IsRefused heard.old (Some r.other.sequence) NotNow option heard.ask heard.new =
-    refused_in NotNow r (record {
+    let done : IsRefused heard.old (Some request.sequence) NotNow (option_of request.head.now) heard.ask heard.new =
+    refused_in heard request NotNow is.is_request (record {
       method = Play;
       talk = good.talk;
       film = good.film;
-      state = ranged_untimely heard request is refl;
+      state = ranged_untimely heard is;
     }) in
     subst (λ (t : List ℕ). HasCode 455 t) (sym (ap (λ (s : SessionState). s.text) done.1))
-    (refusal_code (Some r.other.sequence) NotNow option)
+    (refusal_code (Some request.sequence) NotNow (option_of request.head.now))

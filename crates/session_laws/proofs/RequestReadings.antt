@@ -199,83 +199,77 @@ ranked old request Film is = record { below = omega arith; is = refl }
 ranked old request State is = record { below = omega arith; is = refl }
 ranked old request _ is = absurd is
 
--- the parts of two requests are the same
-abbrev parts_of : Request → Asked
-parts_of request = record {
-  method = request.method.now;
-  url = request.url.now;
+-- a request with the parts of another: only the places in memory stay its own
+abbrev pub as_read : Request → Request → Request
+as_read place request = record {
+  method = record place.method { now = request.method.now };
+  url = record place.url { now = request.url.now };
   sequence = request.sequence;
-  head = request.head.now;
-  body = request.body.now;
+  head = record place.head { now = request.head.now };
+  body = record place.body { now = request.body.now };
 }
 
-pub record AreAlike (request other : Request) : Type 0 where
-  pub parts : AreSameParts (parts_of other) (parts_of request)
+-- what is true for one request that a message is, is true for the parts of another that it is
+pub same_parts : {message : List ℕ} (request place : Request) → IsReadAs message request → IsReadAs message place
+    → (P : Request → Type 0) → P place → P (as_read place request)
+same_parts request place is its P known =
+    let same = request_once its is in
+    subst P (λ i. record {
+      method = record place.method { now = same.method_is i };
+      url = record place.url { now = same.url_is i };
+      sequence = same.sequence_is i;
+      head = record place.head { now = same.head_is i };
+      body = record place.body { now = same.body_is i };
+    }) known
 
--- a request and the rank of its judgement, by another that is alike
-as_alike : {request other : Request} {n : ℕ} (old : SessionState) → AreAlike request other
-    → StopsAt (judging old other) n → StopsAt (judging old request) n
-as_alike {request} {other} {n} old alike stop =
-    let S : List ℕ → List ℕ → List ℕ → Type 0 = λ name url head.
-    StopsAt (record { old = old; name = name; url = url; head = head }) n in
-    subst (S request.method.now request.url.now) alike.parts.head_is
-    (subst (λ u. S request.method.now u other.head.now) alike.parts.url_is
-    (subst (λ m. S m other.url.now other.head.now) alike.parts.method_is stop))
-
--- a request that is alike another that is refused is refused so
-pub judged_refused : {request other : Request} (old : SessionState) (refusal : Refusal) → AreAlike request other
+-- a request with the parts of another that is refused is refused so
+pub judged_refused : (old : SessionState) (request place : Request) (refusal : Refusal)
     → IsJudged old.films old.id old.state request (Err refusal) → (judgement : Result Task Refusal)
-    → IsJudged old.films old.id old.state other judgement → judgement ≡ Err refusal
-judged_refused {request} {other} old refusal alike is judgement its =
+    → IsJudged old.films old.id old.state (as_read place request) judgement → judgement ≡ Err refusal
+judged_refused old request place refusal is judgement its =
     let own = ranked old request refusal is in
     let same = stops_once (rank judgement) (rank (Err refusal))
-    (as_alike old alike (stops old other judgement its)) (stops old request (Err refusal) is) in
-    (elim judgement as (λ j. IsJudged old.films old.id old.state other j → rank j ≡ rank (Err refusal)
-    → j ≡ Err refusal) [
+    (stops old (as_read place request) judgement its) (stops old request (Err refusal) is) in
+    (elim judgement as (λ j. IsJudged old.films old.id old.state (as_read place request) j
+    → rank j ≡ rank (Err refusal) → j ≡ Err refusal) [
       | Ok task ↦ λ judged rank_is. let below = own.below in absurd (omega (arith, rank_is, below))
-      | Err given ↦ λ judged rank_is.
-          ap (λ r. Err r) ((ranked old other given judged).is ∙ ap refusal_at rank_is ∙ sym own.is)
+      | Err given ↦ λ judged rank_is. ap (λ r. Err r)
+          ((ranked old (as_read place request) given judged).is ∙ ap refusal_at rank_is ∙ sym own.is)
     ]) its same
 
--- one that is alike another that is processed isn't refused
-pub never_refused : {m : Method} {request other : Request} (old : SessionState) (refusal : Refusal)
-    → AreAlike request other → Passes old request m → ¬ IsJudged old.films old.id old.state other (Err refusal)
-never_refused {request} {other} old refusal alike passes = λ its.
-    let same = stops_once (rank (Err refusal)) 5 (as_alike old alike (stops old other (Err refusal) its))
+-- one with the parts of another that is processed isn't refused
+never_refused : {m : Method} {request : Request} (old : SessionState) (refusal : Refusal) (place : Request)
+    → Passes old request m → ¬ IsJudged old.films old.id old.state (as_read place request) (Err refusal)
+never_refused {request} old refusal place passes = λ its.
+    let same = stops_once (rank (Err refusal)) 5 (stops old (as_read place request) (Err refusal) its)
     (stops_last old request passes) in
-    let below = (ranked old other refusal its).below in
+    let below = (ranked old (as_read place request) refusal its).below in
     omega (arith, same, below)
 
 -- ---- how a request is read, and what is done for it
 
--- the request that a message is
-pub same_request : (message : List ℕ) (request other : Request)
-    → IsReadAs message request → IsReadAs message other → AreAlike request other
-same_request message request other is its = record { parts = request_once its is }
-
--- a request that a message is, as the session read and judged it, and what it did
+-- a request that a message is, as the session judged it, and what it did
 pub record Reading (h : HeardMessage) (request : Request) : Type 0 where
-  pub other : Request
-  pub alike : AreAlike request other
-  pub hears : HearsRequest h.old other h.ask h.new
+  pub place : Request
+  pub hears : HearsRequest h.old (as_read place request) h.ask h.new
 
 pub reading_of : (h : HeardMessage) (request : Request) → IsReadAs h.message request → Reading h request
 reading_of h request is = elim h.hears [
   | inl fault ↦ absurd (no_fault fault.fault is fault.is_fault)
   | inr whole ↦ record {
-    other = whole.request;
-    alike = same_request h.message request whole.request is whole.is_request;
-    hears = whole.hears;
+    place = whole.request;
+    hears = same_parts request whole.request is whole.is_request (λ r. HearsRequest h.old r h.ask h.new) whole.hears;
   }
 ]
 
 -- one that is to be refused is refused
-pub refused_in : {h : HeardMessage} {request : Request} (refusal : Refusal) (r : Reading h request)
+pub refused_in : (h : HeardMessage) (request : Request) (refusal : Refusal) → IsReadAs h.message request
     → IsJudged h.old.films h.old.id h.old.state request (Err refusal)
-    → IsRefused h.old (Some r.other.sequence) refusal (option_of r.other.head.now) h.ask h.new
-refused_in {h} refusal r is =
-    subst (λ j. Takes h.old r.other j h.ask h.new)
-    (judged_refused h.old refusal r.alike is r.hears.judgement r.hears.judged) r.hears.takes
+    → IsRefused h.old (Some request.sequence) refusal (option_of request.head.now) h.ask h.new
+refused_in h request refusal read is =
+    let r = reading_of h request read in
+    subst (λ j. Takes h.old (as_read r.place request) j h.ask h.new)
+    (judged_refused h.old request r.place refusal is r.hears.judgement r.hears.judged) r.hears.takes
 
 -- what is done for a request of a method
 abbrev pub Does : TakenRequest → Method → Type 0
@@ -305,16 +299,15 @@ taken_as h request = record { old = h.old; new = h.new; request = request; ask =
 
 -- a request of a method, as the session read it, and what it did
 pub record TakenUp (h : HeardMessage) (request : Request) (m : Method) : Type 0 where
-  pub other : Request
-  pub alike : AreAlike request other
-  pub timely : IsTimely h.old.state other m
-  pub does : Does (taken_as h other) m
+  pub place : Request
+  pub timely : IsTimely h.old.state request m
+  pub does : Does (taken_as h (as_read place request)) m
 
 -- a message of a method is refused as all methods are, or does what the method does
 pub data HeardMethod (h : HeardMessage) (request : Request) (m : Method) : Type 0 where
-  IsStopped : (other : Request) (refusal : Refusal) → AreAlike request other
-      → IsJudged h.old.films h.old.id h.old.state other (Err refusal)
-      → IsRefused h.old (Some other.sequence) refusal (option_of other.head.now) h.ask h.new
+  IsStopped : (refusal : Refusal) (place : Request)
+      → IsJudged h.old.films h.old.id h.old.state (as_read place request) (Err refusal)
+      → IsRefused h.old (Some request.sequence) refusal (option_of request.head.now) h.ask h.new
       → HeardMethod h request m
   IsTakenUp : TakenUp h request m → HeardMethod h request m
 
@@ -322,25 +315,23 @@ pub heard_method : (h : HeardMessage) (request : Request) (m : Method) → IsRea
     → request.method.now ≡ name_of m → HeardMethod h request m
 heard_method h request m is method =
     let r = reading_of h request is in
-    (elim r.hears.judgement as (λ j. IsJudged h.old.films h.old.id h.old.state r.other j
-    → Takes h.old r.other j h.ask h.new → HeardMethod h request m) [
+    let read = as_read r.place request in
+    (elim r.hears.judgement as (λ j. IsJudged h.old.films h.old.id h.old.state read j
+    → Takes h.old read j h.ask h.new → HeardMethod h request m) [
       | Ok task ↦ λ judged takes.
-          let same : method_of task ≡ m = method_once r.other.method.now (method_of task) m judged.talk.spoken.named
-          (r.alike.parts.method_is ∙ method) in
+          let same = method_once request.method.now (method_of task) m judged.talk.spoken.named method in
           IsTakenUp (record {
-            other = r.other;
-            alike = r.alike;
-            timely = subst (IsTimely h.old.state r.other) same judged.state;
-            does = subst (Does (taken_as h r.other)) same (does_task (taken_as h r.other) task judged.film takes);
+            place = r.place;
+            timely = subst (IsTimely h.old.state request) same judged.state;
+            does = subst (Does (taken_as h read)) same (does_task (taken_as h read) task judged.film takes);
           })
-      | Err refusal ↦ λ judged takes. IsStopped r.other refusal r.alike judged takes
+      | Err refusal ↦ λ judged takes. IsStopped refusal r.place judged takes
     ]) r.hears.judged r.hears.takes
 
 pub taken_up : (h : HeardMessage) (request : Request) (m : Method) → IsReadAs h.message request
     → Passes h.old request m → TakenUp h request m
 taken_up h request m is passes =
     elim (heard_method h request m is passes.talk.spoken.named) [
-      | IsStopped other refusal alike judged done ↦
-          absurd (never_refused h.old refusal alike passes judged)
+      | IsStopped refusal place judged done ↦ absurd (never_refused h.old refusal place passes judged)
       | IsTakenUp up ↦ up
     ]

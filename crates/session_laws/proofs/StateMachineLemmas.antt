@@ -14,26 +14,22 @@ use Rattle.session.specs.Laws.{InitStage, PlayingStage, ReadyStage, StaysOr, sta
 use Rattle.session.specs.SlotSteps.{admitted_in, halted_in, next_of, state_once_halted}
 use Rattle.session.specs.SessionStates.{SessionState}
 use Rattle.session.proofs.InitialStateLemmas.{HeardMessage, heard_by}
-use Rattle.session.proofs.RequestCaseAnalysis.{Answer, Replies, SetsUp, StartsPlay, HaltsPlay, StopsPlay, EndsSession}
-use Rattle.session.proofs.RequestCaseAnalysis.{TakesLook, SeeksOffer, answer_to, settled_init}
+use Rattle.session.proofs.RequestCaseAnalysis.{Answer, SetsUp, HaltsPlay, StopsPlay, answer_to, by_answer, made_by}
+use Rattle.session.proofs.RequestCaseAnalysis.{settled_init}
 
-answer_moves : (h : HeardMessage) → Answer h → StaysOr InitStage ReadyStage h.old h.new
-answer_moves h (Replies reply is) = inl (ap (λ (s : SessionState). stage_of s.state) is.1)
-answer_moves h (SetsUp film taken setup asks is) =
-    inr (record { begins = ap stage_of (settled_init taken); ends = ap (λ (s : SessionState). stage_of s.state) is.1 })
-answer_moves h (StartsPlay play planned asks planned_is) = inl (ap (λ (s : SessionState). stage_of s.state) asks.state)
-answer_moves h (HaltsPlay taken hand is) =
-    inl (ap (λ (s : SessionState). stage_of s.state) is.asks.state ∙ sym (ap stage_of hand.playing))
-answer_moves h (StopsPlay taken hand is) =
-    inl (ap (λ (s : SessionState). stage_of s.state) is.state ∙ sym (ap stage_of hand.playing))
-answer_moves h (EndsSession taken is) = inl (ap (λ (s : SessionState). stage_of s.state) is.1)
-answer_moves h (TakesLook taken look) = inl (ap (λ (s : SessionState). stage_of s.state) look.state)
-answer_moves h (SeeksOffer offer planned is asks) = inl (ap (λ (s : SessionState). stage_of s.state) asks.state)
+answer_moves : {h : HeardMessage} (answer : Answer h) → StaysOr InitStage ReadyStage h.old (made_by answer)
+answer_moves (SetsUp film taken setup asks is) =
+    inr (record { begins = ap stage_of (settled_init taken); ends = refl })
+answer_moves (HaltsPlay taken hand is) = inl (sym (ap stage_of hand.playing))
+answer_moves (StopsPlay taken hand is) = inl (sym (ap stage_of hand.playing))
+answer_moves _ = inl refl
 
 -- a request moves Init to Ready, or leaves the state
 pub hears_moves : (old new : SessionState) (message : List ℕ) (ask : Ask) → Hears old message ask new
     → StaysOr InitStage ReadyStage old new
-hears_moves old new message ask hears = answer_moves (heard_by hears) (answer_to (heard_by hears))
+hears_moves old new message ask hears =
+    let answer = answer_to (heard_by hears) in
+    by_answer (λ a s. StaysOr InitStage ReadyStage old s) answer (answer_moves answer)
 
 admitted_moves : (state : State) (awaited : Awaited) (place start : ℕ)
     → (stage_of (admitted_in state awaited place start) ≡ stage_of state)
