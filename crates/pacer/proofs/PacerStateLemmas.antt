@@ -102,7 +102,8 @@ due-of-both plan a b keep due is =
 
 -- what went out is of one send
 seam-past : {pieces : List (List ℕ)} {whole : ℕ} {bytes : List ℕ} {told_old told_new : Option (List IoEvent)}
-    (before sent : ℕ) → (stopped : HasStopped (λ place. IsSeam pieces (before + sent + place)) bytes told_old told_new whole)
+    (before sent : ℕ)
+    → (stopped : HasStopped (λ place. IsSeam pieces (before + sent + place)) bytes told_old told_new whole)
     → (place : ℕ) → IsSeam pieces (before + place) → sent + whole < place → sent + stopped.out ≤ place
 seam-past {pieces} before sent stopped place seam less =
     let same : before + place ≡ before + sent + (place - sent) = omega (arith, less) in

@@ -51,8 +51,8 @@ take-size : (f : FirstBytes) → length (first_of f) ≡ length f.first + length
 take-size f = ap length (take-both f) ∙ length-append f.first f.then
 
 -- the head's send failed
-pub head-stopped : {old new : Option (List IoEvent)} (f : FirstBytes) → IsSentPrefix old new f.first → 0 < length f.first
-    → HasStopped (λ place. place ≡ length f.head) (first_of f) old new 0
+pub head-stopped : {old new : Option (List IoEvent)} (f : FirstBytes) → IsSentPrefix old new f.first
+    → 0 < length f.first → HasStopped (λ place. place ≡ length f.head) (first_of f) old new 0
 head-stopped {old} f front some =
     let out = front.0 in
     let size = take-size f in

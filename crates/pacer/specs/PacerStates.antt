@@ -47,7 +47,8 @@ new_pacer_state pieces before plan start = record {
 
 -- a pacing with so much to be sent, after this last slot, with so much due and sent
 abbrev pub with_progress : PacerState → ℕ → Option ℕ → ℕ → ℕ → PacerState
-with_progress p keep last due sent = record p { keep = keep; passed = slots_through last; due = due; sent = sent }
+with_progress p keep last due sent =
+    record p { keep = keep; passed = slots_through last; due = due; sent = sent }
 
 -- what is true for every pacing
 pub record IsPacerState (p : PacerState) : Type 0 where

@@ -83,7 +83,8 @@ fraction_read {text} {k} o all cut read =
     let positive : 0 < 10 ^ (9 - length (take k text)) = one-le-pow (9 - length (take k text)) 10 (omega arith) in
     let below : digits_value 10 (take k text) * 10 ^ (9 - length (take k text)) < 10 ^ 9 =
     rw (← whole) (mul-lt-mul_of_pos_right small positive) in
-    let total : unwrap_or o 0 * 10 ^ (9 - length (take k text)) ≡ digits_value 10 (take k text) * 10 ^ (9 - length (take k text)) =
+    let total : unwrap_or o 0 * 10 ^ (9 - length (take k text))
+    ≡ digits_value 10 (take k text) * 10 ^ (9 - length (take k text)) =
     rw value refl in (
       record { digits = all; value = total ∙ ap (λ (t : List ℕ). digits_value 10 t * 10 ^ (9 - length t)) nine },
       rw total below,

@@ -134,7 +134,8 @@ any_case_read (a ∷ (b ∷ [])) rest span same s =
 any_case_read (a ∷ (b ∷ (c ∷ []))) rest span same s =
     let text = a ∷ b ∷ c ∷ 61 ∷ rest in
     let low : 4 ≤ s.dash = s.is_dash.after in
-    let back : slice_range (codes "npt=" ++ rest) (s.dash + 1) (length text) ≡ slice_range text (s.dash + 1) (length text) =
+    let back : slice_range (codes "npt=" ++ rest) (s.dash + 1) (length text)
+    ≡ slice_range text (s.dash + 1) (length text) =
     ap (λ (l : List ℕ). take (length text - (s.dash + 1)) l) (drop_later a b c rest (s.dash + 1) (omega (arith, low)))
     in
     record {

@@ -73,7 +73,8 @@ record IsPlainValue (protocol : List ℕ) (parts : List (List ℕ)) : Type 0 whe
   spelling : IsSpelling (codes "rtp/avp/tcp") protocol
   all : All IsPlainPart parts
 
-protocol_free : (protocol : List ℕ) → IsSpelling (codes "rtp/avp/tcp") protocol → HasNone 59 protocol 0 (length protocol)
+protocol_free : (protocol : List ℕ) → IsSpelling (codes "rtp/avp/tcp") protocol
+    → HasNone 59 protocol 0 (length protocol)
 unfolding other_than
 protocol_free protocol s = none_from 59 protocol (spelled_free 59 (codes "rtp/avp/tcp") protocol (refl, refl) refl s)
 

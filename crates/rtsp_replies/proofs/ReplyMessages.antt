@@ -344,7 +344,8 @@ overs_short (one ∷ tried) all =
     let rest = overs_short tried (All-tail IsTriedInWords one tried all) in
     omega (arith, length-append (over_line one) (flat_map over_line tried), first, rest)
 
-pub offer_short : (offers : Offers) → AreOffersInWords offers → length (offer_body offers.start offers.tried) ≤ MAX_BODY_BYTES
+pub offer_short : (offers : Offers) → AreOffersInWords offers
+    → length (offer_body offers.start offers.tried) ≤ MAX_BODY_BYTES
 offer_short offers are =
     let start = offers.start in
     let tried = offers.tried in

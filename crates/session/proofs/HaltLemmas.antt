@@ -1,22 +1,16 @@
 -- What a halt leaves.
 use Rattle.std.proofs.Common.{◌≡◌, ◌-◌, Bool, true, false, ◌||◌, if◌then◌else◌, refl, sym, ap, subst, ◌∙◌, arith}
-use Rattle.session.specs.declared.states.Awaited.TheVariants.{Nothing}
-use Rattle.film_streams.specs.declared.stream_numbers.Counts.{Counts}
-use Rattle.session.specs.declared.states.AfterHalt.{AfterHalt}
-use Rattle.session.specs.declared.states.AfterHalt.TheVariants.{Done, Paused, Torn}
-use Rattle.session.specs.declared.states.Play.{Play as Played}
-use Rattle.session.specs.declared.states.Teardown.{Teardown}
-use Rattle.film_streams.specs.declared.setups.Setup.{Setup}
-use Rattle.session.specs.declared.states.State.{State}
-use Rattle.session.specs.declared.states.State.TheVariants.{Playing}
-use Rattle.session.specs.RequestSteps.{counts_next, is_answered, is_torn}
-use Rattle.session.specs.SessionInvariant.{SessionContext, IsAwaitedInvariant, IsGoing, IsSessionInvariant, IsNextIn}
-use Rattle.session.specs.SessionInvariant.{IsStateInvariant, IsStopAnswered, session_context_of, open_receipts}
-use Rattle.session.specs.SessionInvariant.{session_state_of}
-use Rattle.session.specs.SessionStates.{CanHandleRequest}
+use Rattle.session.proofs.SharedTerms.{AfterHalt, Awaited, Counts, counts_next, is_answered, IsAwaitedInvariant}
+use Rattle.session.proofs.SharedTerms.{IsGoing, IsSessionInvariant, IsStateInvariant, next_of, open_receipts, Played}
+use Rattle.session.proofs.SharedTerms.{session_context_of, SessionContext, Setup, State, state_once_halted}
 use Rattle.session.specs.declared.sessions.Session.TheInside.{Inside}
-use Rattle.session.specs.declared.states.Awaited.{Awaited}
-use Rattle.session.specs.SlotSteps.{next_of, state_once_halted}
+use Rattle.session.specs.declared.states.Awaited.TheVariants.{Nothing}
+use Rattle.session.specs.declared.states.AfterHalt.TheVariants.{Done, Paused, Torn}
+use Rattle.session.specs.declared.states.Teardown.{Teardown}
+use Rattle.session.specs.declared.states.State.TheVariants.{Playing}
+use Rattle.session.specs.RequestSteps.{is_torn}
+use Rattle.session.specs.SessionInvariant.{IsNextIn, IsStopAnswered, session_state_of}
+use Rattle.session.specs.SessionStates.{CanHandleRequest}
 use Rattle.session.specs.Teardowns.{is_tearing, is_torn_down}
 use Rattle.session_records.specs.RecordLists.{SessionRecords}
 use Rattle.session.proofs.PlayRequestLemmas.{next_in}

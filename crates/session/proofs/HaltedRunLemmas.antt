@@ -2,25 +2,19 @@
 use Rattle.std.proofs.Common.{◌≡◌, ℕ, ◌+◌, ◌<◌, ◌≤◌, min, nat_lt, ◌==◌, true, false, List, Option, Some, None, refl}
 use Rattle.std.proofs.Common.{sym, ap, subst, ◌∙◌, eq-eqb, inl, inr, arith}
 use Rattle.std.proofs.lemmas.Bool.{cases_lt, lt-ltb}
+use Rattle.session.proofs.SharedTerms.{first_slots, identity_of, IsBoundary, IsBoundaryAfter, IsPacedPlay, IsPacerState}
+use Rattle.session.proofs.SharedTerms.{next_boundary, PacerState, playback_of, Played, Run, run_pieces, Segment}
+use Rattle.session.proofs.SharedTerms.{sending_of, SessionContext, Setup, Stored, stored_sizes, total_bytes}
 use Rattle.plan_cert.proofs.PlanSlotLemmas.{sum_through_rises}
 use Rattle.plan_cert.proofs.SlotSums.{sum_through-past}
-use Rattle.plan_cert.specs.PlanSlots.{sum_through, total_bytes, total_slots}
-use Rattle.film_frames.specs.declared.stored_films.Stored.{Stored}
-use Rattle.film_frames.specs.Tracks.{IsBoundary, IsBoundaryAfter}
-use Rattle.film_frames.specs.FramedRuns.{run_of, run_pieces}
-use Rattle.film_run.specs.declared.runs.Run.{Run}
+use Rattle.plan_cert.specs.PlanSlots.{sum_through, total_slots}
+use Rattle.film_frames.specs.FramedRuns.{run_of}
 use Rattle.film_run.specs.declared.plans.Playback.{Playback}
 use Rattle.film_run.specs.Pauses.{IsHalt, IsRemainingRun}
 use Rattle.film_run.specs.Runs.{Fits, IsRun}
-use Rattle.film_run.specs.Units.{stored_sizes}
-use Rattle.plan_cert.specs.declared.Segment.{Segment}
-use Rattle.pacer.specs.PacerStates.{IsPacerState, PacerState, first_slots, is_done, next_boundary, slots_through}
-use Rattle.session.specs.RunRequests.{sending_of, IsRunOf, playback_of}
-use Rattle.film_streams.specs.StreamNumbers.{identity_of}
-use Rattle.session.specs.SessionInvariant.{SessionContext, IsPlaying, IsPlayUnfinished}
-use Rattle.session.specs.ResumedPlays.{IsPacedPlay}
-use Rattle.session.specs.declared.states.Play.{Play as Played}
-use Rattle.film_streams.specs.declared.setups.Setup.{Setup}
+use Rattle.pacer.specs.PacerStates.{is_done, slots_through}
+use Rattle.session.specs.RunRequests.{IsRunOf}
+use Rattle.session.specs.SessionInvariant.{IsPlaying, IsPlayUnfinished}
 
 -- a pacing that is halted at a boundary before all that it keeps was sent
 pub record HaltedPacing (p : PacerState) (keep : ℕ) : Type 0 where

@@ -1,14 +1,6 @@
 -- What a session begins with, what it receives, and a play that it has in hand.
 use Rattle.std.proofs.Common.{◌≡◌, ℕ, List}
-use Rattle.film_frames.specs.declared.stored_films.Stored.{Stored}
-use Rattle.rtsp_text.specs.declared.requests.Request.{Request}
-use Rattle.session.specs.RequestSteps.{Hears}
-use Rattle.film_streams.specs.SettingRanges.{AreFilms}
-use Rattle.session.specs.SessionStates.{SessionState}
-use Rattle.session.specs.declared.commands.Ask.{Ask}
-use Rattle.film_streams.specs.declared.settings.Settings.{Settings}
-use Rattle.session.specs.declared.states.Play.{Play as Played}
-use Rattle.film_streams.specs.declared.setups.Setup.{Setup}
+use Rattle.session.proofs.SharedTerms.{AreFilms, Ask, Hears, Played, Request, SessionState, Settings, Setup, Stored}
 use Rattle.session.specs.declared.states.State.TheVariants.{Playing}
 
 -- what a session begins with: the server's films and settings, and the connection's words

@@ -1,3 +1,4 @@
+pub mod SharedTerms
 pub mod InitialStateLemmas
 pub mod StopBoundaryLemmas
 pub mod HaltLemmas

@@ -1,35 +1,21 @@
 -- What a play, a halt and an admission leave of how a session is kept.
 use Rattle.std.proofs.Common.{◌≡◌, ℕ, ◌+◌, ◌-◌, ◌≤◌, Bool, true, List, Option, length, refl, sym, ap, subst, ◌∙◌, arith}
-use Rattle.plan_cert.specs.PlanSlots.{total_bytes}
-use Rattle.film_frames.specs.declared.stored_films.Stored.{Stored}
-use Rattle.film_frames.specs.FramedRuns.{run_pieces}
-use Rattle.film_frames.specs.Tracks.{framed_bytes}
-use Rattle.film_run.specs.declared.runs.Run.{Run}
+use Rattle.session.proofs.SharedTerms.{AfterHalt, Awaited, framed_bytes, IsAwaitedInvariant, IsFilmAt, IsGoing}
+use Rattle.session.proofs.SharedTerms.{IsPacerState, IsPlayable, IsSessionInvariant, IsStateInvariant, next_boundary}
+use Rattle.session.proofs.SharedTerms.{next_of, OfFilm, open_receipts, PacerState, Planned, Played, Prepared}
+use Rattle.session.proofs.SharedTerms.{prepared_of, Run, run_pieces, sending_of, session_context_of, SessionContext}
+use Rattle.session.proofs.SharedTerms.{SessionState, Setup, State, Stored, stored_sizes, total_bytes}
+use Rattle.session.specs.declared.sessions.Session.TheInside.{Inside}
 use Rattle.film_run.specs.Runs.{bytes_between}
-use Rattle.film_run.specs.Units.{stored_sizes}
-use Rattle.pacer.specs.PacerStates.{IsPacerState, PacerState, next_boundary}
-use Rattle.session.specs.RunRequests.{sending_of, IsPlayable}
-use Rattle.film_streams.specs.Films.{IsFilmAt, OfFilm}
-use Rattle.session.specs.Methods.{prepared_of}
-use Rattle.session.specs.SessionInvariant.{SessionContext, IsAwaitedInvariant, IsGoing, IsSessionInvariant, IsNextIn}
-use Rattle.session.specs.SessionInvariant.{IsPlayUnfinished, IsPreparedAs, IsPreparedIn, IsStateInvariant}
-use Rattle.session.specs.SessionInvariant.{session_context_of, awaited_plays, awaited_receipts, open_receipts}
-use Rattle.session.specs.SessionInvariant.{session_state_of}
+use Rattle.session.specs.SessionInvariant.{IsNextIn, IsPlayUnfinished, IsPreparedAs, IsPreparedIn, awaited_plays}
+use Rattle.session.specs.SessionInvariant.{awaited_receipts, session_state_of}
 use Rattle.session.specs.ResumedPlays.{IsPrepared}
-use Rattle.session.specs.SlotSteps.{next_of, play_of}
-use Rattle.session.specs.SessionStates.{CanHandleRequest, IsReadyIn, SessionState}
+use Rattle.session.specs.SlotSteps.{play_of}
+use Rattle.session.specs.SessionStates.{CanHandleRequest, IsReadyIn}
 use Rattle.session.specs.RequestedPlans.{IsPausedIn}
 use Rattle.session_records.specs.RecordLists.{SessionRecords}
-use Rattle.session.specs.declared.plans.Planned.{Planned}
-use Rattle.session.specs.declared.states.Awaited.{Awaited}
 use Rattle.session.specs.declared.states.Awaited.TheVariants.{Nothing, Play, Halt}
-use Rattle.session.specs.declared.states.AfterHalt.{AfterHalt}
-use Rattle.session.specs.declared.states.Play.{Play as Played}
-use Rattle.session.specs.declared.states.Prepared.{Prepared}
-use Rattle.film_streams.specs.declared.setups.Setup.{Setup}
-use Rattle.session.specs.declared.states.State.{State}
 use Rattle.session.specs.declared.states.State.TheVariants.{Ready, Playing}
-use Rattle.session.specs.declared.sessions.Session.TheInside.{Inside}
 use Rattle.session.proofs.StepInvariantLemmas.{nothing_of, step_kept}
 use Rattle.session.proofs.HaltedRunLemmas.{keeps_within}
 use Rattle.session.proofs.ResumedPlayLemmas.{of_film}

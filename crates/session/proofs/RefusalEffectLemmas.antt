@@ -1,12 +1,9 @@
 -- What a reply other than 200 leaves, and what plays on.
 use Rattle.std.proofs.Common.{◌≡◌, ℕ, List, refl, sym, ap, subst, ◌∙◌, inl, inr}
+use Rattle.session.proofs.SharedTerms.{AsksNoHalt, Hears, Played, SessionState, Setup, with_reply}
 use Rattle.session.specs.declared.commands.Ask.TheVariants.{Reply}
-use Rattle.session.specs.declared.states.Play.{Play as Played}
-use Rattle.film_streams.specs.declared.setups.Setup.{Setup}
 use Rattle.session.specs.declared.states.State.TheVariants.{Playing}
-use Rattle.session.specs.RequestSteps.{Hears}
-use Rattle.session.specs.Laws.{AsksNoHalt, LeavesOr, PlaysOn}
-use Rattle.session.specs.SessionStates.{SessionState, with_reply}
+use Rattle.session.specs.Laws.{LeavesOr, PlaysOn}
 use Rattle.session.proofs.InitialStateLemmas.{HeardMessage, PlayInHand, heard_by}
 use Rattle.session.proofs.RequestCaseAnalysis.{Answer, Replies, SetsUp, HaltsPlay, StopsPlay, EndsSession, answer_to}
 use Rattle.session.proofs.RequestCaseAnalysis.{asked_by, by_answer, made_by, settled_init}

@@ -3,27 +3,20 @@ use Rattle.std.proofs.Common.{◌≡◌, ℕ, ◌<◌, ◌++◌, List, [], Optio
 use Rattle.std.specs.Prelude.{Bool, true, false, not, ◌==◌, ◌&&◌}
 use Rattle.std.proofs.lemmas.Fmt.{decimal_injective}
 use Rattle.std.specs.Fmt.{digits}
-use Rattle.rtsp_text.specs.Replies.{Field, reply_front, reply_text, status_line}
-use Rattle.session.specs.declared.commands.Ask.{Ask}
+use Rattle.session.proofs.SharedTerms.{Ask, code_of, fault_refusal, Field, first_sequence, HasCode, Hears, IsJudged}
+use Rattle.session.proofs.SharedTerms.{IsRefused, IsReplied, MayRunOutOfMemory, option_of, Refusal, refusal_text}
+use Rattle.session.proofs.SharedTerms.{session_text, SessionState}
+use Rattle.rtsp_text.specs.Replies.{reply_front, reply_text, status_line}
 use Rattle.session.specs.declared.commands.Ask.TheVariants.{Reply, Halt as AskHalt}
-use Rattle.rtsp_methods.specs.declared.refusals.Refusal.{Refusal}
 use Rattle.rtsp_methods.specs.declared.refusals.Refusal.TheVariants.{BadRequest, Memory}
-use Rattle.session.specs.RequestEffects.{HasCode, IsNoRefusal, RefusesNone}
-use Rattle.session.specs.RequestSteps.{Hears}
-use Rattle.session.specs.Laws.{Is500, IsOutOfMemory, MayRunOutOfMemory, NeverLacks}
-use Rattle.rtsp_replies.specs.Replies.{code_of, refusal_text, session_text}
-use Rattle.rtsp_text.specs.Fields.{first_sequence}
-use Rattle.rtsp_methods.specs.Refusals.{fault_refusal}
-use Rattle.rtsp_methods.specs.RequiredOptions.{option_of}
-use Rattle.session.specs.Methods.{IsRefused, IsReplied}
-use Rattle.session.specs.RefusalOrder.{IsJudged}
-use Rattle.session.specs.SessionStates.{SessionState}
+use Rattle.session.specs.RequestEffects.{IsNoRefusal, RefusesNone}
+use Rattle.session.specs.Laws.{Is500, IsOutOfMemory, NeverLacks}
 use Rattle.session.proofs.InitialStateLemmas.{HeardMessage, heard_by}
 use Rattle.session.proofs.RequestUniqueness.{first_sequence_is}
 use Rattle.session.proofs.RequestCaseAnalysis.{asked_by, by_answer, made_by, Answer, Replies, SetsUp, StartsPlay}
-use Rattle.session.proofs.RequestCaseAnalysis.{HaltsPlay, StopsPlay}
-use Rattle.session.proofs.RequestCaseAnalysis.{EndsSession, TakesLook, SeeksOffer, OwnReply, ToFault, ToRefused}
-use Rattle.session.proofs.RequestCaseAnalysis.{ToDeclined, answer_to, fault_refuses, may_lack, reply_of}
+use Rattle.session.proofs.RequestCaseAnalysis.{HaltsPlay, StopsPlay, EndsSession, TakesLook, SeeksOffer, OwnReply}
+use Rattle.session.proofs.RequestCaseAnalysis.{ToFault, ToRefused, ToDeclined, answer_to, fault_refuses, may_lack}
+use Rattle.session.proofs.RequestCaseAnalysis.{reply_of}
 
 -- a reply has one code
 pub one_code : {c d : ℕ} (text : List ℕ) → c < 1000 → d < 1000 → HasCode c text → HasCode d text → c ≡ d

@@ -2,47 +2,33 @@
 use Rattle.std.proofs.Common.{◌≡◌, ◌≢◌, ℕ, ◌<◌, ◌≤◌, ◌⊎◌, false, List, [], length, Option, Some, None, Result, Ok, Err}
 use Rattle.std.proofs.Common.{◌-◌, true, codes, string_bytes, refl, sym, subst, inl, inr, arith}
 use Rattle.std.proofs.lemmas.Option.{slice_get_within}
-use Rattle.film_frames.specs.declared.stored_films.Stored.{Stored}
-use Rattle.film_run.specs.declared.runs.Run.{Run}
-use Rattle.rtsp_text.specs.Fields.{first_sequence, header_value}
+use Rattle.session.proofs.SharedTerms.{AfterHalt, AreSettings, Ask, AsksForSetup, AsksHalt, AsksOfferOr, AsksPlay}
+use Rattle.session.proofs.SharedTerms.{AsksPlayOr, Ends, fault_refusal, first_sequence, Gets, GetsOffer, has_session_in}
+use Rattle.session.proofs.SharedTerms.{HasWait, header_value, IsChosen, IsFilmAt, IsJudged, IsPlanned, IsPlannedRun}
+use Rattle.session.proofs.SharedTerms.{IsReadAs, IsReplied, IsSetUp, IsSetup, IsSetupRead, IsTaken, IsTopic, IsWord}
+use Rattle.session.proofs.SharedTerms.{length_ms, Looks, MayRunOutOfMemory, option_of, Pauses, plain_text, Planned}
+use Rattle.session.proofs.SharedTerms.{play_call, play_front, Plays, prepared_of, public_text, Refusal, refusal_text}
+use Rattle.session.proofs.SharedTerms.{Request, Run, session_text, SessionState, Setup, State, Stored, Takes, Task}
+use Rattle.session.proofs.SharedTerms.{TearsDown, Topic, with_reply}
 use Rattle.rtsp_text.specs.Requests.{IsFault}
-use Rattle.rtsp_text.specs.declared.requests.Request.{Request}
 use Rattle.rtsp_text.specs.declared.requests.RequestFault.{RequestFault}
 use Rattle.rtsp_text.specs.declared.requests.RequestFault.TheVariants.{BadLine}
-use Rattle.rtsp_methods.specs.Methods.{IsTopic, IsWord}
-use Rattle.rtsp_methods.specs.Refusals.{fault_refusal}
-use Rattle.rtsp_methods.specs.RequiredOptions.{option_of}
-use Rattle.rtsp_methods.specs.declared.topics.Topic.{Topic}
 use Rattle.rtsp_methods.specs.declared.topics.Topic.TheVariants.{Nothing as NoTopic, Booked, Offer as OfferTopic}
 use Rattle.rtsp_methods.specs.declared.topics.Topic.TheVariants.{Unknown}
-use Rattle.rtsp_methods.specs.declared.refusals.Refusal.{Refusal}
 use Rattle.rtsp_methods.specs.declared.refusals.Refusal.TheVariants.{Session, State as NotNow, Parameter, Memory}
-use Rattle.rtsp_replies.specs.Replies.{describe_text, plain_text, public_text, refusal_text, session_text, setup_text}
-use Rattle.film_streams.specs.Films.{IsFilmAt, length_ms}
-use Rattle.film_streams.specs.SettingRanges.{AreSettings, IsSetup}
-use Rattle.film_streams.specs.Setups.{AsksForSetup, IsChosen, IsSetupRead}
+use Rattle.rtsp_replies.specs.Replies.{describe_text, setup_text}
 use Rattle.film_streams.specs.declared.films.Asked.{Asked}
-use Rattle.film_streams.specs.declared.setups.Setup.{Setup}
-use Rattle.session.specs.declared.commands.Ask.{Ask}
 use Rattle.session.specs.declared.commands.Ask.TheVariants.{Reply, Play as AskPlay, Halt as AskHalt, Look as AskLook}
 use Rattle.session.specs.declared.commands.Ask.TheVariants.{Offer as AskOffer}
-use Rattle.session.specs.declared.plans.Planned.{Planned}
-use Rattle.session.specs.declared.refusals.Task.{Task}
 use Rattle.session.specs.declared.refusals.Task.TheVariants.{Options as ToOptions, Describe as ToDescribe}
 use Rattle.session.specs.declared.refusals.Task.TheVariants.{Setup as ToSetup, Play as ToPlay, Pause as ToPause}
 use Rattle.session.specs.declared.refusals.Task.TheVariants.{Teardown as ToTeardown, GetParameter as ToGetParameter}
-use Rattle.session.specs.declared.states.AfterHalt.{AfterHalt}
 use Rattle.session.specs.declared.states.AfterHalt.TheVariants.{Paused, Torn}
 use Rattle.session.specs.declared.states.Awaited.TheVariants.{Play, Halt, Look, Offer}
-use Rattle.session.specs.declared.states.State.{State}
 use Rattle.session.specs.declared.states.State.TheVariants.{Init, Ready, Playing}
-use Rattle.session.specs.Laws.{IsTeardown, MayRunOutOfMemory}
-use Rattle.session.specs.Methods.{AsksHalt, AsksLook, AsksOffer, AsksOfferOr, AsksPlay, AsksPlayOr, Ends, Gets}
-use Rattle.session.specs.Methods.{GetsOffer, HasWait, IsReplied, IsSetUp, Looks, Pauses, PausesPlay, Plays, Takes}
-use Rattle.session.specs.Methods.{TearsDown, play_call, play_front, prepared_of}
-use Rattle.session.specs.RefusalOrder.{IsJudged, IsReadAs, IsTaken}
-use Rattle.session.specs.RequestedPlans.{IsPlanned, IsPlannedRun}
-use Rattle.session.specs.SessionStates.{IsReadyIn, SessionState, has_session_in, with_reply}
+use Rattle.session.specs.Laws.{IsTeardown}
+use Rattle.session.specs.Methods.{AsksLook, AsksOffer, PausesPlay}
+use Rattle.session.specs.SessionStates.{IsReadyIn}
 use Rattle.session.proofs.InitialStateLemmas.{HeardMessage, PlayInHand}
 use Rattle.session.proofs.ResumedPlayLemmas.{of_film}
 

@@ -1,24 +1,12 @@
 -- What each request changes of a session.
 use Rattle.std.proofs.Common.{◌≡◌, ℕ, List, [], Some, codes, Result, Ok, Err, refl, sym, ap, subst, inl, inr}
-use Rattle.rtsp_text.specs.Fields.{header_value}
-use Rattle.rtsp_text.specs.declared.requests.Request.{Request}
-use Rattle.session.specs.declared.commands.Ask.{Ask}
+use Rattle.session.proofs.SharedTerms.{AfterHalt, Ask, AsksHalt, AsksNoHalt, AsksPlay, AsksPlayOr, AwaitsNoStop}
+use Rattle.session.proofs.SharedTerms.{header_value, Hears, IsJudged, IsPlanned, IsPlannedRun, IsRefused, next_boundary}
+use Rattle.session.proofs.SharedTerms.{Planned, play_call, Plays, Refusal, Request, SessionState, State, Takes, Task}
 use Rattle.session.specs.declared.commands.Ask.TheVariants.{Play as AskPlay}
-use Rattle.session.specs.declared.plans.Planned.{Planned}
-use Rattle.rtsp_methods.specs.declared.refusals.Refusal.{Refusal}
-use Rattle.session.specs.declared.refusals.Task.{Task}
 use Rattle.session.specs.declared.refusals.Task.TheVariants.{Play as ToPlay}
-use Rattle.session.specs.declared.states.AfterHalt.{AfterHalt}
-use Rattle.session.specs.declared.states.State.{State}
-use Rattle.session.specs.RequestEffects.{AsksOrLacks, AwaitsNoStop, CanBePlayed, ChangesState, IsGoodPlay}
-use Rattle.session.specs.RequestEffects.{IsHaltAsked, IsPlayAskedFor, IsSameContext}
-use Rattle.pacer.specs.PacerStates.{next_boundary}
-use Rattle.session.specs.RequestSteps.{Hears}
-use Rattle.session.specs.RefusalOrder.{IsJudged}
-use Rattle.session.specs.Laws.{AsksNoHalt}
-use Rattle.session.specs.Methods.{AsksHalt, AsksPlayOr, IsRefused, Plays, Takes, play_call, AsksPlay}
-use Rattle.session.specs.RequestedPlans.{IsPlanned, IsPlannedRun}
-use Rattle.session.specs.SessionStates.{SessionState}
+use Rattle.session.specs.RequestEffects.{AsksOrLacks, CanBePlayed, ChangesState, IsGoodPlay, IsHaltAsked}
+use Rattle.session.specs.RequestEffects.{IsPlayAskedFor, IsSameContext}
 use Rattle.session.proofs.InitialStateLemmas.{HeardMessage, PlayInHand, heard_by}
 use Rattle.session.proofs.ResumedPlayLemmas.{of_film}
 use Rattle.session.proofs.RequestCaseAnalysis.{Answer, Replies, SetsUp, StartsPlay, HaltsPlay, StopsPlay, EndsSession}

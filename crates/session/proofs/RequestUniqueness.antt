@@ -1,26 +1,19 @@
 -- What a request says is read in one way.
 use Rattle.std.proofs.Common.{◌≡◌, ℕ, ◌^◌, List, [], ◌∷◌, get_or, slice_get, slice_range, filter_map, option_and_then}
 use Rattle.std.proofs.Common.{Option, Some, None, Result, Ok, Err, codes, refl, sym, ap, ◌∙◌, inl, inr, arith}
+use Rattle.session.proofs.SharedTerms.{AreChannelsOf, AreFilms, AsksForSetup, Channels, first_sequence, header_value}
+use Rattle.session.proofs.SharedTerms.{IsChosen, IsSetupRead, IsTopic, IsWaitOf, IsWord, Names, Refusal, Settings}
+use Rattle.session.proofs.SharedTerms.{Setup, Stored, Topic}
 use Rattle.vod_base.specs.Numbers.{number_of}
-use Rattle.film_frames.specs.declared.stored_films.Stored.{Stored}
-use Rattle.rtsp_fields.specs.declared.transports.Channels.{Channels}
 use Rattle.rtsp_fields.proofs.FieldUniqueness.{transport_once}
 use Rattle.rtsp_fields.proofs.PartLemmas.{within_once}
 use Rattle.rtsp_fields.proofs.PartPlaces.{end_once}
-use Rattle.rtsp_text.specs.Fields.{first_number, first_sequence, first_value, header_value, sequence_number, value_in}
+use Rattle.rtsp_text.specs.Fields.{first_number, first_value, sequence_number, value_in}
 use Rattle.rtsp_text.specs.Lines.{header_lines}
-use Rattle.rtsp_methods.specs.declared.topics.Topic.{Topic}
 use Rattle.rtsp_methods.specs.declared.topics.Topic.TheVariants.{Nothing as NoTopic, Booked, Offer as OfferTopic}
 use Rattle.rtsp_methods.specs.declared.topics.Topic.TheVariants.{Unknown}
-use Rattle.rtsp_methods.specs.declared.refusals.Refusal.{Refusal}
 use Rattle.rtsp_methods.specs.declared.refusals.Refusal.TheVariants.{Transport, Parameter}
-use Rattle.film_streams.specs.declared.setups.Setup.{Setup}
-use Rattle.film_streams.specs.declared.settings.Settings.{Settings}
-use Rattle.film_streams.specs.Films.{Names}
-use Rattle.rtsp_methods.specs.Methods.{IsTopic, IsWord}
-use Rattle.session.specs.Methods.{IsWaitOf}
-use Rattle.film_streams.specs.SettingRanges.{AreFilms}
-use Rattle.film_streams.specs.Setups.{IsSetupRead, AreChannelsOf, AsksForSetup, HasChannels, IsChosen, HasNoMeaning}
+use Rattle.film_streams.specs.Setups.{HasChannels, HasNoMeaning}
 use Rattle.film_streams.proofs.FilmUrlLemmas.{film_once, named_once}
 
 -- what a SETUP asks for
@@ -42,15 +35,21 @@ pub record SetupSource : Type 0 where
 setup_once : (from : SetupSource) (one other : Setup) → AsksForSetup from.settings from.head from.film one
     → AsksForSetup from.settings from.head from.film other → other ≡ one
 setup_once from one other is its =
-    let S : ℕ → Channels → ℕ → ℕ → Setup =
-    λ f c b d. record { film = f; media = c.media; control = c.control; buffer = b; delay = d } in
-    let C : Setup → Channels = λ s. record { media = s.media; control = s.control } in
     let film_is = its.film_is ∙ sym is.film_is in
-    let channels = channels_once (header_value from.head (codes "Transport")) (C one) (C other) is.channels its.channels in
-    let buffer = chosen_once (header_value from.head (codes "x-Buffer")) from.settings.buffer 1 (2 ^ 42) is.buffer its.buffer in
-    let delay = chosen_once (header_value from.head (codes "x-Startup")) from.settings.startup 0 10000 is.delay its.delay in
-    ap (λ f. S f (C other) other.buffer other.delay) film_is ∙ ap (λ c. S one.film c other.buffer other.delay) channels
-    ∙ ap (λ b. S one.film (C one) b other.delay) buffer ∙ ap (λ d. S one.film (C one) one.buffer d) delay
+    let channels = channels_once (header_value from.head (codes "Transport"))
+    (record { media = one.media; control = one.control }) (record { media = other.media; control = other.control })
+    is.channels its.channels in
+    let buffer = chosen_once (header_value from.head (codes "x-Buffer")) from.settings.buffer 1 (2 ^ 42)
+    is.buffer its.buffer in
+    let delay = chosen_once (header_value from.head (codes "x-Startup")) from.settings.startup 0 10000
+    is.delay its.delay in
+    λ i. record {
+      film = film_is i;
+      media = (channels i).media;
+      control = (channels i).control;
+      buffer = buffer i;
+      delay = delay i;
+    }
 
 -- a SETUP that is refused
 pub data Unread (settings : Settings) (head : List ℕ) (refusal : Refusal) : Type 0 where

@@ -1,22 +1,12 @@
 -- What can be sent on.
 use Rattle.std.proofs.Common.{◌≡◌, ℕ, List, Option, Some, None, IfSome, MatchOption, sym, subst, ◌∙◌, arith}
-use Rattle.film_frames.specs.declared.stored_films.Stored.{Stored}
-use Rattle.film_run.specs.declared.runs.Run.{Run}
-use Rattle.film_run.specs.Seeks.{IsRequestedRange}
+use Rattle.session.proofs.SharedTerms.{Counts, counts_for, Film, identity_of, IsAskedRun, IsFilmAt, IsRequestedRange}
+use Rattle.session.proofs.SharedTerms.{IsRequestFor, OfFilm, Origin, PlayRequest, Run, run_of, Setup, Span, Stored}
+use Rattle.session.proofs.SharedTerms.{StreamSource}
 use Rattle.film_run.proofs.NewRunLemmas.{none-at-boundary}
-use Rattle.mpeg_scan.specs.declared.films.Film.{Film}
 use Rattle.rtsp_fields.proofs.FieldUniqueness.{span_once}
-use Rattle.rtsp_fields.specs.declared.ranges.Span.{Span}
-use Rattle.rtsp_fields.specs.declared.ranges.Origin.{Origin}
 use Rattle.rtsp_fields.specs.declared.ranges.Origin.TheVariants.{Now, At}
-use Rattle.film_streams.specs.Films.{IsFilmAt, OfFilm}
-use Rattle.film_streams.specs.StreamNumbers.{identity_of}
-use Rattle.session.specs.RunRequests.{IsAskedRun, IsNoRange, IsRunOf, IsSpanOf, IsRequestFor, RequestsNothing}
-use Rattle.session.specs.RunRequests.{counts_for, run_of}
-use Rattle.film_streams.specs.declared.stream_numbers.Counts.{Counts}
-use Rattle.film_streams.specs.declared.setups.Setup.{Setup}
-use Rattle.film_streams.specs.declared.stream_numbers.StreamSource.{StreamSource}
-use Rattle.session.specs.declared.play_requests.PlayRequest.{PlayRequest}
+use Rattle.session.specs.RunRequests.{IsNoRange, IsRunOf, IsSpanOf, RequestsNothing}
 use Rattle.session.specs.declared.play_requests.PlayRequest.TheVariants.{Resumed, New}
 
 -- one film has one number

@@ -1,30 +1,20 @@
 -- What a step leaves of how a session is kept.
 use Rattle.std.proofs.Common.{◌≡◌, ℕ, ◌≤◌, Bool, true, false, List, Option, refl, sym, ap, subst, ◌∙◌, arith}
-use Rattle.vod_base.specs.declared.links.TheConstants.{LATEST_SLOT}
-use Rattle.plan_cert.specs.declared.Segment.{Segment}
-use Rattle.plan_cert.specs.PlanSlots.{total_bytes}
-use Rattle.film_frames.specs.declared.stored_films.Stored.{Stored}
-use Rattle.film_frames.specs.FramedRuns.{run_pieces}
-use Rattle.film_run.specs.declared.runs.Run.{Run}
-use Rattle.session.specs.RunRequests.{sending_of, IsPlayable}
-use Rattle.session.specs.SessionInvariant.{SessionContext, IsAwaitedInvariant, IsGoing, IsPlaying, IsSessionInvariant}
-use Rattle.session.specs.SessionInvariant.{IsStateInvariant, IsStepped, IsStopAnswered, awaited_offers, awaited_plays}
-use Rattle.session.specs.SessionInvariant.{awaited_receipts, open_receipts, session_context_of}
-use Rattle.session.specs.RequestedPlans.{IsPausedIn}
-use Rattle.session.specs.ResumedPlays.{IsPacedPlay}
-use Rattle.session.specs.SlotSteps.{HaltsIfDone, is_done_in}
-use Rattle.session.specs.SessionStates.{NoAnswer, awaited_answer_of}
-use Rattle.session.specs.SlotTransitions.{IsCarried, IsEven, IsSamePacing, after_stop}
-use Rattle.session.specs.Teardowns.{is_tearing, is_torn_down}
+use Rattle.session.proofs.SharedTerms.{after_stop, AfterHalt, Awaited, awaited_answer_of, IsAwaitedInvariant, IsGoing}
+use Rattle.session.proofs.SharedTerms.{IsPacedPlay, IsPlayable, IsSessionInvariant, IsStateInvariant, open_receipts}
+use Rattle.session.proofs.SharedTerms.{Played, Run, run_pieces, Segment, sending_of, session_context_of, SessionContext}
+use Rattle.session.proofs.SharedTerms.{Setup, State, Stop, Stored, total_bytes}
 use Rattle.session.specs.declared.sessions.Session.TheInside.{Inside}
-use Rattle.session.specs.declared.states.Awaited.{Awaited}
+use Rattle.vod_base.specs.declared.links.TheConstants.{LATEST_SLOT}
+use Rattle.session.specs.SessionInvariant.{IsPlaying, IsStepped, IsStopAnswered, awaited_offers, awaited_plays}
+use Rattle.session.specs.SessionInvariant.{awaited_receipts}
+use Rattle.session.specs.RequestedPlans.{IsPausedIn}
+use Rattle.session.specs.SlotSteps.{HaltsIfDone, is_done_in}
+use Rattle.session.specs.SessionStates.{NoAnswer}
+use Rattle.session.specs.SlotTransitions.{IsCarried, IsEven, IsSamePacing}
+use Rattle.session.specs.Teardowns.{is_tearing, is_torn_down}
 use Rattle.session.specs.declared.states.Awaited.TheVariants.{Nothing, Play, Halt}
-use Rattle.session.specs.declared.states.AfterHalt.{AfterHalt}
-use Rattle.session.specs.declared.states.Play.{Play as Played}
-use Rattle.session.specs.declared.states.Stop.{Stop}
 use Rattle.session.specs.declared.states.Teardown.{Teardown}
-use Rattle.film_streams.specs.declared.setups.Setup.{Setup}
-use Rattle.session.specs.declared.states.State.{State}
 use Rattle.session.specs.declared.states.State.TheVariants.{Init, Ready, Playing, Stopping}
 
 -- a session with the parts of an older one that a step changes
@@ -81,7 +71,8 @@ carried_kept : (ground : SessionContext) (old new : State) → IsStateInvariant 
 carried_kept ground Init Init kept carried =
     record { state = tt; stop = λ waits is. tt; open_is = refl; going = λ lost is even undone. tt }
 carried_kept ground (Ready setup paused) (Ready s p) kept carried = record {
-  state = subst (λ (x : State). IsStateInvariant ground x) (let same : Ready setup paused ≡ Ready s p = cc in same) kept;
+  state = subst (λ (x : State). IsStateInvariant ground x) (let same : Ready setup paused ≡ Ready s p = cc in same)
+      kept;
   stop = λ waits is. tt;
   open_is = refl;
   going = λ lost is even undone. tt;
@@ -215,7 +206,8 @@ settled_kept : (ground : SessionContext) (lost : Bool) (old : State) (awaited : 
     → IsStateInvariant ground old → IsAwaitedInvariant ground lost old awaited
     → SettledState ground lost old awaited
 settled_kept ground lost (Stopping setup stop) awaited is kept =
-    record { state = (is.0, is.2); kept = stopped_awaited ground lost setup stop awaited kept; stop = tt; open_is = refl }
+    let kept = stopped_awaited ground lost setup stop awaited kept in
+    record { state = (is.0, is.2); kept = kept; stop = tt; open_is = refl }
 settled_kept ground lost _ awaited is kept = record { state = is; kept = kept; stop = tt; open_is = refl }
 
 -- a session is kept by a reply that was sent

@@ -1,9 +1,8 @@
 -- A step with a stop that leaves something ends at a boundary.
 use Rattle.std.proofs.Common.{◌≡◌, ℕ, ◌+◌, ◌-◌, ◌<◌, ◌≤◌, min, true, List, length, sym, ap, subst, ◌∙◌, eq-eqb, arith}
-use Rattle.film_frames.specs.Tracks.{framed_bytes, IsBoundary, IsBoundaryAfter}
-use Rattle.pacer.specs.Boundaries.{boundary_from}
-use Rattle.pacer.specs.PacerStates.{IsPacerState, PacerState, due_by, next_boundary, stands_at_boundary, after_step}
-use Rattle.pacer.proofs.PacerStateLemmas.{boundary-from, boundary-is}
+use Rattle.session.proofs.SharedTerms.{after_step, boundary-from, boundary_from, due_by, framed_bytes, IsBoundary}
+use Rattle.session.proofs.SharedTerms.{IsBoundaryAfter, IsPacerState, next_boundary, PacerState, stands_at_boundary}
+use Rattle.pacer.proofs.PacerStateLemmas.{boundary-is}
 
 -- what was sent of a run ends before a boundary inside of it
 record SentWithin (pieces : List (List ℕ)) : Type 0 where

@@ -1,11 +1,8 @@
 -- A request that passes each judgement is processed.
 use Rattle.std.proofs.Common.{List, ℕ}
-use Rattle.film_frames.specs.declared.stored_films.Stored.{Stored}
-use Rattle.rtsp_text.specs.declared.requests.Request.{Request}
-use Rattle.session.specs.SessionStates.{has_session_in}
+use Rattle.session.proofs.SharedTerms.{has_session_in, IsTaken, IsTimely, Method, Request, Stored}
 use Rattle.session.specs.Tasks.{IsAsked, IsTask, IsValid, NeedsSession}
-use Rattle.session.specs.RefusalOrder.{IsOnFilm, IsOwnTalk, IsTaken, IsTimely, task_for}
-use Rattle.rtsp_methods.specs.declared.methods.Method.{Method}
+use Rattle.session.specs.RefusalOrder.{IsOnFilm, IsOwnTalk, task_for}
 use Rattle.rtsp_methods.specs.declared.methods.Method.TheVariants.{Options, Describe, Setup, Play, Pause, Teardown}
 use Rattle.film_streams.specs.declared.films.Asked.{Asked}
 use Rattle.session.specs.declared.states.State.{State as StateKind}

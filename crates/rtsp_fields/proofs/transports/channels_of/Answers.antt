@@ -13,7 +13,13 @@ loop-part-init c =
 pub returns-then-starts_with : goal.returns-then-starts_with
 returns-then-starts_with c =
     channels_found c.read_channels.result
-    (record { old = _; new = c.next.new.self; part = _; passed = c.loop-part.invariant; gives = c.in-Some.ensures.steps })
+    (record {
+      old = _;
+      new = c.next.new.self;
+      part = _;
+      passed = c.loop-part.invariant;
+      gives = c.in-Some.ensures.steps;
+    })
     (rw (← c.trim-part.ensures) (c.if-starts_with.ensures.0 refl))
     (rw (← c.trim-part.ensures) c.read_channels.ensures)
 

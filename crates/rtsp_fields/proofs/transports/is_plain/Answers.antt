@@ -13,7 +13,13 @@ pub returns-then-asks_other_delivery : goal.returns-then-asks_other_delivery
 returns-then-asks_other_delivery c = (
   λ wrong. cc,
   λ none.
-      let found = found_part (record { old = _; new = c.next.new.self; part = _; passed = c.loop-part.invariant; gives = c.in-Some.ensures.steps })
+      let found = found_part (record {
+        old = _;
+        new = c.next.new.self;
+        part = _;
+        passed = c.loop-part.invariant;
+        gives = c.in-Some.ensures.steps;
+      })
       (c.if-asks_other_delivery.ensures.0 refl) in
       absurd (none _ _ found.0.part found.0.holds),
 )

@@ -12,12 +12,24 @@ loop-alternative-init c =
 
 pub returns-in-Some-read_alternative : goal.returns-in-Some-read_alternative
 returns-in-Some-read_alternative c =
-    transport_found (record { old = _; new = c.next.new.self; part = _; passed = c.loop-alternative.invariant; gives = c.in-Some.ensures.steps })
+    transport_found (record {
+      old = _;
+      new = c.next.new.self;
+      part = _;
+      passed = c.loop-alternative.invariant;
+      gives = c.in-Some.ensures.steps;
+    })
     c.in-Some-read_alternative.ensures
 
 pub loop-alternative-preserved : goal.loop-alternative-preserved
 loop-alternative-preserved c =
-    passed_more (record { old = _; new = _; part = _; passed = c.loop-alternative.invariant; gives = c.in-Some.ensures.steps })
+    passed_more (record {
+      old = _;
+      new = _;
+      part = _;
+      passed = c.loop-alternative.invariant;
+      gives = c.in-Some.ensures.steps;
+    })
     (not_taken _ c.in_default.ensures)
 
 pub returns : goal.returns

@@ -23,7 +23,8 @@ returns-clause-text c =
     ∷ decimal c.args.info.now.timestamp ∷ []) =
     rw (c.as_slice-3.ensures, c.as_slice-4.ensures, c.as_slice-5.ensures, number, c.as_slice-6.ensures, time) refl in
     let session = field (codes "Session") c.args.id.now in
-    c.field_from_parts-2.ensures.front 200 (Some c.args.sequence) (session ∷ field (codes "Range") (joined_parts range) ∷ [])
+    c.field_from_parts-2.ensures.front 200 (Some c.args.sequence)
+    (session ∷ field (codes "Range") (joined_parts range) ∷ [])
     (c.field_from_parts.ensures.front 200 (Some c.args.sequence) (session ∷ [])
     (c.field.ensures.front 200 (Some c.args.sequence) [] (c.start.ensures.front c.clear.ensures)))
     ∙ ap (λ (ps : List (List ℕ)). reply_front 200 (Some c.args.sequence)

@@ -8,14 +8,10 @@ early slot latest small = omega (arith, small)
 late : (slot latest : ℕ) → latest ≤ slot → min slot latest ≡ latest
 late slot latest great = omega (arith, great)
 
-pub returns-clause-play : goal.returns-clause-play
-returns-clause-play c = λ heard plan small. ap (λ (s : ℕ). Play s plan) (early heard (2 ^ 62) small)
-
-pub returns-clause-late_play : goal.returns-clause-late_play
-returns-clause-late_play c = λ heard plan great. ap (λ (s : ℕ). Play s plan) (late heard (2 ^ 62) great)
-
-pub returns-clause-look : goal.returns-clause-look
-returns-clause-look c = λ slot small. ap (λ (s : ℕ). Look s) (early slot (2 ^ 62) small)
-
-pub returns-clause-late_look : goal.returns-clause-late_look
-returns-clause-late_look c = λ slot great. ap (λ (s : ℕ). Look s) (late slot (2 ^ 62) great)
+pub returns : goal.returns
+returns c = record {
+  play = λ heard plan small. ap (λ (s : ℕ). Play s plan) (early heard (2 ^ 62) small);
+  late_play = λ heard plan great. ap (λ (s : ℕ). Play s plan) (late heard (2 ^ 62) great);
+  look = λ slot small. ap (λ (s : ℕ). Look s) (early slot (2 ^ 62) small);
+  late_look = λ slot great. ap (λ (s : ℕ). Look s) (late slot (2 ^ 62) great);
+}
