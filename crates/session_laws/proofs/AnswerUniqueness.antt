@@ -1,51 +1,37 @@
 -- A message has one answer, if memory is found for it.
 use Rattle.std.proofs.Common.{◌≡◌, ℕ, string_bytes, List, [], Option, Some, None, Result, Ok, Err, codes, refl, sym, ap}
 use Rattle.std.proofs.Common.{subst, ◌∙◌, inl, inr, arith}
-use Rattle.film_frames.specs.declared.stored_films.Stored.{Stored}
-use Rattle.film_run.specs.declared.runs.Run.{Run}
+use Rattle.session.proofs.SharedTerms.{AsksHalt, AsksOfferOr, AsksPlayOr, Describes, fault_refusal, first_sequence}
+use Rattle.session.proofs.SharedTerms.{Gets, GetsOffer, HasWait, header_value, Hears, IsJudged, IsPlanned, IsReadAs}
+use Rattle.session.proofs.SharedTerms.{IsRefused, IsReplied, IsSetUp, IsSetupRead, IsTopic, length_ms, Looks, Method}
+use Rattle.session.proofs.SharedTerms.{method_of, Names, next_boundary, no_fault, Offers, option_of, Pauses, plain_text}
+use Rattle.session.proofs.SharedTerms.{play_call, play_front, playback_of, Plays, prepared_of, public_text, Refusal}
+use Rattle.session.proofs.SharedTerms.{refusal_text, Request, Run, session_text, SessionState, SetsUp, Setup, Stored}
+use Rattle.session.proofs.SharedTerms.{stored_sizes, Takes, TearsDown, Topic, with_reply}
+use Rattle.session.specs.declared.commands.Ask.{Ask}
+use Rattle.session.specs.declared.plans.Planned.{Planned}
+use Rattle.session.specs.declared.refusals.Task.{Task}
+use Rattle.session.specs.declared.states.AfterHalt.{AfterHalt}
+use Rattle.session.specs.declared.states.Play.{Play as Played}
+use Rattle.session.specs.declared.states.State.{State}
 use Rattle.film_run.proofs.RemainingRunLemmas.{left-one}
 use Rattle.film_run.specs.Pauses.{IsRemainingRun}
-use Rattle.film_run.specs.Units.{stored_sizes}
-use Rattle.early_start.specs.StartSearch.{Offers}
 use Rattle.early_start.specs.declared.Tried.{Tried}
-use Rattle.pacer.specs.PacerStates.{next_boundary, slots_through}
-use Rattle.rtsp_text.specs.Fields.{first_sequence, header_value}
-use Rattle.rtsp_text.specs.declared.requests.Request.{Request}
-use Rattle.rtsp_text.proofs.MessageUniqueness.{fault_once, no_fault}
-use Rattle.session.specs.declared.commands.Ask.{Ask}
+use Rattle.pacer.specs.PacerStates.{slots_through}
+use Rattle.rtsp_text.proofs.MessageUniqueness.{fault_once}
 use Rattle.session.specs.declared.commands.Ask.TheVariants.{Halt as AskHalt, Offer as AskOffer}
-use Rattle.rtsp_methods.specs.declared.methods.Method.{Method}
 use Rattle.rtsp_methods.specs.declared.methods.Method.TheVariants.{Options, Describe, Setup as SetupMethod}
 use Rattle.rtsp_methods.specs.declared.methods.Method.TheVariants.{Play as PlayMethod, Pause, Teardown, GetParameter}
-use Rattle.rtsp_methods.specs.declared.topics.Topic.{Topic}
 use Rattle.rtsp_methods.specs.declared.topics.Topic.TheVariants.{Nothing as NoTopic, Booked, Offer as OfferTopic}
 use Rattle.rtsp_methods.specs.declared.topics.Topic.TheVariants.{Unknown}
-use Rattle.session.specs.declared.plans.Planned.{Planned}
-use Rattle.rtsp_methods.specs.declared.refusals.Refusal.{Refusal}
 use Rattle.rtsp_methods.specs.declared.refusals.Refusal.TheVariants.{Session, State as NotNow, Parameter, Memory}
-use Rattle.session.specs.declared.refusals.Task.{Task}
 use Rattle.session.specs.declared.states.Awaited.TheVariants.{Play, Halt}
-use Rattle.session.specs.declared.states.AfterHalt.{AfterHalt}
 use Rattle.session.specs.declared.states.AfterHalt.TheVariants.{Paused, Torn}
-use Rattle.session.specs.declared.states.Play.{Play as Played}
-use Rattle.film_streams.specs.declared.setups.Setup.{Setup}
-use Rattle.session.specs.declared.states.State.{State}
 use Rattle.session.specs.declared.states.State.TheVariants.{Init, Ready, Playing}
-use Rattle.film_streams.specs.Films.{Names, length_ms}
-use Rattle.session.specs.RequestSteps.{Hears}
-use Rattle.session.specs.RefusalOrder.{IsJudged, method_of, IsReadAs}
-use Rattle.rtsp_methods.specs.RequiredOptions.{option_of}
-use Rattle.rtsp_methods.specs.Methods.{IsTopic}
-use Rattle.rtsp_methods.specs.Refusals.{fault_refusal}
 use Rattle.session.specs.Laws.{IsOneAnswer}
-use Rattle.session.specs.Methods.{AsksHalt, AsksOfferOr, AsksPlayOr, Describes, play_call, Gets, GetsOffer, HasWait}
-use Rattle.session.specs.Methods.{IsRefused, IsReplied, IsSetUp, Looks, OffersReady, Pauses, PausesPlay, Plays, SetsUp}
-use Rattle.session.specs.Methods.{Takes, TearsDown, prepared_of, play_front}
-use Rattle.session.specs.RequestedPlans.{IsPlanned}
-use Rattle.session.specs.RunRequests.{playback_of}
-use Rattle.rtsp_replies.specs.Replies.{describe_text, plain_text, public_text, refusal_text, session_text}
-use Rattle.film_streams.specs.Setups.{IsSetupRead}
-use Rattle.session.specs.SessionStates.{AreFilms, SessionState, with_reply}
+use Rattle.session.specs.Methods.{OffersReady, PausesPlay}
+use Rattle.rtsp_replies.specs.Replies.{describe_text}
+use Rattle.session.specs.SessionStates.{AreFilms}
 use Rattle.session.proofs.InitialStateLemmas.{HeardMessage, TwoHearings}
 use Rattle.session_laws.proofs.RequestReadings.{Does, as_read, does_task, passes_of, refused_in, taken_up}
 use Rattle.session.proofs.RequestUniqueness.{AreSameNames, first_sequence_is, names_once, read_once, topic_once}

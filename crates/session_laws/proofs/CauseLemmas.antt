@@ -2,42 +2,29 @@
 use Rattle.std.specs.Prelude.{⊤}
 use Rattle.std.proofs.Common.{◌≡◌, ◌≢◌, ℕ, ◌<◌, ◌⊎◌, true, List, [], codes, Option, Some, None, is_some, Err, refl, sym}
 use Rattle.std.proofs.Common.{ap, subst, ◌∙◌, inl, inr, arith, Bool, false, ◌==◌}
-use Rattle.rtsp_methods.specs.Refusals.{curve_refusal}
-use Rattle.rtsp_text.specs.Fields.{header_value}
-use Rattle.wire_curve.specs.declared.film.CurveRefused.{CurveRefused}
 use Rattle.wire_curve.specs.declared.film.CurveRefused.TheVariants.{Fault, NoMemory as CurveMemory}
 use Rattle.wire_curve.specs.declared.film.CurveFault.TheVariants.{BufferTooSmall}
-use Rattle.rtsp_text.specs.Replies.{Field, reply_text}
-use Rattle.rtsp_text.specs.declared.requests.Request.{Request}
-use Rattle.rtsp_text.proofs.MessageUniqueness.{no_fault}
 use Rattle.session.specs.declared.commands.Ask.TheVariants.{Reply}
-use Rattle.rtsp_methods.specs.declared.methods.Method.{Method}
 use Rattle.rtsp_methods.specs.declared.methods.Method.TheVariants.{Options, Describe}
-use Rattle.rtsp_methods.specs.declared.refusals.Refusal.{Refusal}
 use Rattle.rtsp_methods.specs.declared.refusals.Refusal.TheVariants.{Method as Unknown, Option as Required, Session}
 use Rattle.rtsp_methods.specs.declared.refusals.Refusal.TheVariants.{Film, State as NotNow}
-use Rattle.film_streams.specs.declared.setups.Setup.{Setup}
-use Rattle.session.specs.declared.states.State.{State}
 use Rattle.session.specs.declared.states.State.TheVariants.{Init}
-use Rattle.film_streams.specs.Films.{Names}
 use Rattle.session_laws.specs.MethodLaws.{NamesNoOwnFilm, NamesNoSession, NamesSession, setup_in}
 use Rattle.session_laws.specs.RefusalLaws.{IsKnownMethod, RequiresSomeOption}
-use Rattle.session.specs.RefusalOrder.{FitsFilm, IsJudged, IsOwnFilm, IsReadAs}
-use Rattle.rtsp_methods.specs.RequiredOptions.{first_of, option_of}
-use Rattle.rtsp_replies.specs.Replies.{code_of, refusal_text}
-use Rattle.session.specs.RequestEffects.{HasCode}
-use Rattle.session.specs.RequestSteps.{Hears}
-use Rattle.session.specs.SessionStates.{SessionState, has_session_in}
+use Rattle.session.specs.RefusalOrder.{FitsFilm}
 use Rattle.session_laws.proofs.MethodLemmas.{exists_in, fits_session}
 use Rattle.session.proofs.ReplyCodeLemmas.{ok_text_code, one_code, own_code, refusal_code}
 use Rattle.session.proofs.RequestUniqueness.{NoChannels, NoMeaning, unread}
 use Rattle.session_laws.proofs.RequestReadings.{same_parts}
 use Rattle.session.proofs.InitialStateLemmas.{HeardMessage, heard_by}
 use Rattle.session.proofs.RequestCaseAnalysis.{Answer, Replies, SetsUp, EndsSession, OwnReply, ToFault, asked_by}
-use Rattle.session.proofs.RequestCaseAnalysis.{by_answer, made_by}
-use Rattle.session.proofs.RequestCaseAnalysis.{ToRefused, ToDeclined, OwnCause, NoSetup, NoPlan, NoMemory, NoSession}
-use Rattle.session.proofs.RequestCaseAnalysis.{NotInPlaying, NoParameter, answer_to, reply_of}
+use Rattle.session.proofs.RequestCaseAnalysis.{by_answer, made_by, ToRefused, ToDeclined, OwnCause, NoSetup, NoPlan}
+use Rattle.session.proofs.RequestCaseAnalysis.{NoMemory, NoSession, NotInPlaying, NoParameter, answer_to, reply_of}
 use Rattle.std.specs.Bool.{⊤}
+use Rattle.session.proofs.SharedTerms.{code_of, curve_refusal, CurveRefused, Field, first_of, has_session_in, HasCode}
+use Rattle.session.proofs.SharedTerms.{header_value, Hears, IsJudged, IsOwnFilm, IsReadAs, Method, Names, no_fault}
+use Rattle.session.proofs.SharedTerms.{option_of, Refusal, refusal_text, reply_text, Request, SessionState, Setup}
+use Rattle.session.specs.declared.states.State.{State}
 
 -- what a reply's code says of its request
 abbrev pub IfIt : Bool → Type 0 → Type 0 → Type 0

@@ -1,20 +1,14 @@
 -- What a session replies to a SETUP that it accepts, to a PLAY that asks for a play, and to a
 -- TEARDOWN of its own.
 use Rattle.std.proofs.Common.{Ok, ◌≡◌, ◌⊎◌, ℕ, List, codes, Some, None, refl, sym, ap, subst, ◌∙◌, inl, inr}
-use Rattle.rtsp_text.specs.Fields.{header_value}
+use Rattle.session.proofs.SharedTerms.{AsksForSetup, Ends, has_session_in, header_value, IsOwnFilm, IsOwnSession}
+use Rattle.session.proofs.SharedTerms.{IsPlannedRun, IsSetUp, Names, play_front, required_of, session_text}
+use Rattle.session.proofs.SharedTerms.{SessionState, Setup, TearsDown}
 use Rattle.session.specs.declared.states.Prepared.{Prepared}
-use Rattle.film_streams.specs.declared.setups.Setup.{Setup}
 use Rattle.session.specs.declared.states.State.{State}
 use Rattle.session.specs.declared.states.State.TheVariants.{Playing}
-use Rattle.film_streams.specs.Films.{Names}
-use Rattle.session.specs.Methods.{IsSetUp, Ends, TearsDown, play_front}
 use Rattle.session_laws.specs.MethodLaws.{setup_in}
-use Rattle.session.specs.RefusalOrder.{IsOwnFilm, IsOwnSession}
-use Rattle.rtsp_methods.specs.RequiredOptions.{required_of}
-use Rattle.rtsp_replies.specs.Replies.{session_text, setup_text}
-use Rattle.session.specs.RequestedPlans.{IsPlannedRun}
-use Rattle.session.specs.SessionStates.{SessionState, has_session_in}
-use Rattle.film_streams.specs.Setups.{AsksForSetup}
+use Rattle.rtsp_replies.specs.Replies.{setup_text}
 use Rattle.rtsp_methods.specs.declared.methods.Method.TheVariants.{Teardown}
 use Rattle.session.proofs.InitialStateLemmas.{HeardMessage}
 use Rattle.session_laws.proofs.RequestReadings.{TakenUp, taken_up}

@@ -10,29 +10,27 @@ use Rattle.std.proofs.lemmas.List.{length-drop, length-take}
 use Rattle.std.proofs.lemmas.List.Elements.{All-get_or}
 use Rattle.std.proofs.lemmas.List.Sums.{sum_by-take-drop, sum_by-take-le}
 use Rattle.std.proofs.lemmas.Option.{get_or_from_slice_get, same_Some, slice_get_within}
+use Rattle.session.proofs.SharedTerms.{after_offer, AreChannelsOf, AreFilms, Channels, curve_refusal, CurveRefused}
+use Rattle.session.proofs.SharedTerms.{fault_refusal, Film, first_of, first_sequence, good_name, header_value, Hears}
+use Rattle.session.proofs.SharedTerms.{IsFilmAt, IsJudged, IsPlanned, IsReadAs, IsSetupRead, length_ms, look_body}
+use Rattle.session.proofs.SharedTerms.{new_session_state, offer_body, option_of, picture_time, playback_of, Refusal}
+use Rattle.session.proofs.SharedTerms.{Request, rest_sizes, Run, run_of, session_text, SessionState, Settings, Setup}
+use Rattle.session.proofs.SharedTerms.{Stored, stored_sizes, Timing, timing_of}
+use Rattle.session.specs.declared.commands.Ask.{Ask}
+use Rattle.session.specs.declared.refusals.Task.{Task}
 use Rattle.vod_base.specs.declared.limits.TheConstants.{MAX_BYTES}
 use Rattle.vod_base.specs.Blanks.{without_blanks}
-use Rattle.vod_base.specs.Names.{good_name}
 use Rattle.vod_base.specs.Numbers.{is_decimal, number_of}
 use Rattle.vod_base.proofs.TextLemmas.{trimmed_is}
-use Rattle.mpeg_scan.specs.PictureRates.{picture_time, picture_times}
-use Rattle.mpeg_scan.specs.declared.films.Film.{Film}
+use Rattle.mpeg_scan.specs.PictureRates.{picture_times}
 use Rattle.wire_curve.specs.FilmCurves.{bytes_used_in, due_slot}
-use Rattle.wire_curve.specs.declared.film.CurveRefused.{CurveRefused}
 use Rattle.wire_curve.specs.declared.film.CurveRefused.TheVariants.{Fault}
 use Rattle.wire_curve.specs.declared.film.CurveFault.TheVariants.{BufferTooSmall}
-use Rattle.wire_curve.specs.declared.film.Timing.{Timing}
 use Rattle.wire_curve.specs.CurveFaults.{IsRefused as HaveNoCurves}
 use Rattle.wire_curve.proofs.PictureSums.{sum_by-range-all, sum_by-range-le}
 use Rattle.wire_curve.proofs.SlotUsageLemmas.{cond_le}
-use Rattle.film_frames.specs.declared.stored_films.Stored.{Stored}
 use Rattle.film_frames.proofs.FilmPieceLemmas.{film-bound, film-few}
-use Rattle.film_run.specs.declared.runs.Run.{Run}
-use Rattle.film_run.specs.Plans.{rest_sizes, timing_of}
-use Rattle.film_run.specs.Units.{stored_sizes}
-use Rattle.rtsp_text.specs.Fields.{first_sequence, header_value}
 use Rattle.rtsp_text.specs.Lines.{header_lines}
-use Rattle.rtsp_text.specs.declared.requests.Request.{Request}
 use Rattle.rtsp_text.specs.declared.requests.RequestFault.{RequestFault}
 use Rattle.rtsp_text.specs.declared.requests.RequestFault.TheVariants.{BadLine}
 use Rattle.rtsp_text.proofs.RequestBounds.{read_url}
@@ -40,26 +38,11 @@ use Rattle.rtsp_text.proofs.FirstField.{first_tells, number_tells}
 use Rattle.rtsp_text.proofs.LineBounds.{value_inside}
 use Rattle.rtsp_fields.specs.Transports.{HasChannels as AreNamedChannels}
 use Rattle.rtsp_fields.specs.Urls.{IsRead}
-use Rattle.rtsp_fields.specs.declared.transports.Channels.{Channels}
-use Rattle.session.specs.declared.commands.Ask.{Ask}
-use Rattle.rtsp_methods.specs.declared.refusals.Refusal.{Refusal}
 use Rattle.rtsp_methods.specs.declared.refusals.Refusal.TheVariants.{Buffer, Range}
-use Rattle.session.specs.declared.refusals.Task.{Task}
-use Rattle.film_streams.specs.declared.settings.Settings.{Settings}
-use Rattle.film_streams.specs.declared.setups.Setup.{Setup}
-use Rattle.film_streams.specs.Films.{IsFilmAt, length_ms, milliseconds_at}
+use Rattle.film_streams.specs.Films.{milliseconds_at}
 use Rattle.film_streams.specs.StreamNumbers.{timestamp_at}
-use Rattle.session.specs.RequestSteps.{Hears, after_offer, new_session_state}
-use Rattle.session.specs.RefusalOrder.{IsJudged, IsReadAs}
-use Rattle.rtsp_methods.specs.RequiredOptions.{first_of, option_of, or_nothing}
-use Rattle.rtsp_methods.specs.Refusals.{fault_refusal, curve_refusal}
+use Rattle.rtsp_methods.specs.RequiredOptions.{or_nothing}
 use Rattle.session.specs.Methods.{first_number}
-use Rattle.session.specs.RequestedPlans.{IsPlanned}
-use Rattle.session.specs.RunRequests.{playback_of, run_of}
-use Rattle.film_streams.specs.SettingRanges.{AreFilms}
-use Rattle.rtsp_replies.specs.Replies.{look_body, offer_body, session_text}
-use Rattle.film_streams.specs.Setups.{IsSetupRead, AreChannelsOf}
-use Rattle.session.specs.SessionStates.{SessionState}
 use Rattle.session_laws.specs.CompleteReplies.{AnswersLook, AnswersPlay, HasValidIds, LeavesRoom, RepliesAreComplete}
 use Rattle.rtsp_replies.specs.Messages.{IsMessage}
 use Rattle.session.proofs.RequestUniqueness.{first_sequence_is}

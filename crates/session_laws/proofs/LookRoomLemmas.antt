@@ -2,21 +2,18 @@
 use Rattle.std.proofs.Common.{◌≡◌, ℕ, ◌+◌, ◌-◌, ◌<◌, ◌≤◌, ◌&&◌, Bool, true, false, cond, List, [], ◌∷◌, codes, refl}
 use Rattle.std.proofs.Common.{sym, ap, subst, ◌∙◌, inl, inr, arith}
 use Rattle.std.proofs.lemmas.List.Sums.{sum_by-cons}
+use Rattle.session.proofs.SharedTerms.{after_play, is_between, is_sending, is_taken, IsWord, MayRunOutOfMemory}
+use Rattle.session.proofs.SharedTerms.{new_session_state, request_once, sent_due, sent_reply, sent_slot, SessionState}
+use Rattle.session.proofs.SharedTerms.{stepped_in}
 use Rattle.session.specs.declared.commands.Ask.{Ask}
 use Rattle.rtsp_methods.specs.declared.topics.Topic.TheVariants.{Booked, Offer as OfferTopic}
-use Rattle.session.specs.RequestSteps.{new_session_state}
-use Rattle.rtsp_methods.specs.Methods.{IsWord}
-use Rattle.session.specs.Laws.{Is500, MayRunOutOfMemory}
+use Rattle.session.specs.Laws.{Is500}
 use Rattle.session.specs.LookLaws.{SessionEvent, Message, Slot, AreAfter, AsksBooked, HasLooksLeft, IsAfter}
 use Rattle.session.specs.LookLaws.{looks_asked, looks_in, looks_of}
-use Rattle.session.specs.SlotSteps.{after_play, is_between, is_sending, is_taken, sent_due, sent_reply, sent_slot}
-use Rattle.session.specs.SlotSteps.{stepped_in}
-use Rattle.session.specs.SessionStates.{SessionState}
 use Rattle.session.proofs.InitialStateLemmas.{Beginning, HeardMessage, heard_by}
 use Rattle.session.proofs.RequestUniqueness.{topic_once}
 use Rattle.session.proofs.ReplyCodeLemmas.{hears_may}
 use Rattle.session.proofs.RequestCaseAnalysis.{Answer, TakesLook, answer_to, asked_by, by_answer, made_by}
-use Rattle.rtsp_text.proofs.MessageUniqueness.{request_once}
 
 -- the room that a session has lost is that of the looks that were asked for
 abbrev Keeps : ℕ → SessionState → SessionState → Type 0

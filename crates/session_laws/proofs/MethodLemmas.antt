@@ -2,57 +2,42 @@
 use Rattle.std.specs.Prelude.{⊤}
 use Rattle.std.proofs.Common.{◌≡◌, ◌≢◌, ℕ, ◌⊎◌, Bool, true, List, [], codes, string_bytes, Option, Some, None, is_some}
 use Rattle.std.proofs.Common.{Result, Ok, Err, refl, sym, ap, subst, ◌∙◌, inl, inr, arith}
+use Rattle.session.proofs.SharedTerms.{AreChannelsOf, AreFilms, AsksOfferOr, AsksPlay, AsksPlayOr, Channels, code_of}
+use Rattle.session.proofs.SharedTerms.{curve_refusal, CurveRefused, Describes, first_of, FitsSession, Gets, GetsOffer}
+use Rattle.session.proofs.SharedTerms.{good_name, has_session_in, HasNoPlan, HasWait, header_value, identity_of}
+use Rattle.session.proofs.SharedTerms.{IsChosen, IsOwnFilm, IsOwnSession, IsPlanned, IsRefused, IsReplied, IsSetUp}
+use Rattle.session.proofs.SharedTerms.{IsSetupRead, IsTimely, IsTopic, IsWaitOf, IsWord, Looks, Method, name_of, Names}
+use Rattle.session.proofs.SharedTerms.{plain_text, play_call, play_front, Plays, prepared_of, public_text, Refusal}
+use Rattle.session.proofs.SharedTerms.{refusal_text, reply_text, Request, Run, session_text, SessionState, SetsUp}
+use Rattle.session.proofs.SharedTerms.{Setup, Stored, Topic, with_reply}
+use Rattle.session.specs.declared.commands.Ask.{Ask}
+use Rattle.session.specs.declared.plans.Planned.{Planned}
+use Rattle.session.specs.declared.states.State.{State}
 use Rattle.vod_base.specs.declared.limits.TheConstants.{MAX_BYTES, MAX_DELAY}
-use Rattle.vod_base.specs.Names.{good_name}
-use Rattle.wire_curve.specs.declared.film.CurveRefused.{CurveRefused}
 use Rattle.wire_curve.specs.declared.film.CurveRefused.TheVariants.{Fault, NoMemory as CurveMemory}
 use Rattle.wire_curve.specs.declared.film.CurveFault.TheVariants.{BufferTooSmall}
-use Rattle.film_frames.specs.declared.stored_films.Stored.{Stored}
-use Rattle.film_run.specs.declared.runs.Run.{Run}
-use Rattle.rtsp_text.specs.Fields.{header_value}
-use Rattle.rtsp_text.specs.Replies.{reply_text}
-use Rattle.rtsp_text.specs.declared.requests.Request.{Request}
-use Rattle.rtsp_fields.specs.declared.transports.Channels.{Channels}
-use Rattle.session.specs.declared.commands.Ask.{Ask}
-use Rattle.rtsp_methods.specs.declared.methods.Method.{Method}
 use Rattle.rtsp_methods.specs.declared.methods.Method.TheVariants.{Options, Describe, Play as PlayMethod, Pause}
 use Rattle.rtsp_methods.specs.declared.methods.Method.TheVariants.{Teardown, Setup as SetupMethod, GetParameter}
-use Rattle.rtsp_methods.specs.declared.topics.Topic.{Topic}
 use Rattle.rtsp_methods.specs.declared.topics.Topic.TheVariants.{Nothing, Booked, Offer as OfferTopic}
 use Rattle.rtsp_methods.specs.declared.topics.Topic.TheVariants.{Unknown as OtherTopic}
-use Rattle.session.specs.declared.plans.Planned.{Planned}
-use Rattle.rtsp_methods.specs.declared.refusals.Refusal.{Refusal}
 use Rattle.rtsp_methods.specs.declared.refusals.Refusal.TheVariants.{Session, Film, State as NotNow, Transport}
 use Rattle.rtsp_methods.specs.declared.refusals.Refusal.TheVariants.{Parameter, Buffer, Range, Memory}
 use Rattle.session.specs.declared.states.Awaited.TheVariants.{Play as ToAwaitPlay}
-use Rattle.film_streams.specs.declared.setups.Setup.{Setup}
-use Rattle.session.specs.declared.states.State.{State}
 use Rattle.session.specs.declared.states.State.TheVariants.{Init, Ready}
 use Rattle.session_laws.specs.EndLaws.{HasSessionInReply}
-use Rattle.film_streams.specs.Films.{Names}
-use Rattle.film_streams.specs.StreamNumbers.{identity_of}
 use Rattle.session_laws.specs.MethodLaws.{AnswersAlone, GivesChannels, GivesNumber, HasBadNumber, IsDescribeRequest}
 use Rattle.session_laws.specs.MethodLaws.{IsFilmDescribed, IsFilmMethod, IsLookAsked, IsOfferAskedOf, IsOptionsAnswered}
 use Rattle.session_laws.specs.MethodLaws.{IsParameterRequest, IsPlainMessage, IsPlayAskedOf, IsPlayConfirmed}
 use Rattle.session_laws.specs.MethodLaws.{IsPlayRequest, IsRefusedFor, IsSetupAnswered, IsSetupRequest, IsUnknownBody}
 use Rattle.session_laws.specs.MethodLaws.{MayNameSession, NamesOtherFilm, NamesSession, PlanRefusal, NoMeaning}
 use Rattle.session_laws.specs.MethodLaws.{NoCurves, SmallBuffer, NoMemory, SettlesSetup, setup_in}
-use Rattle.session.specs.Methods.{AsksOfferOr, AsksPlay, AsksPlayOr, Describes, GetsOffer, GetsParameter, Gets, HasWait}
-use Rattle.session.specs.Methods.{IsRefused, IsReplied, IsSetUp, IsWaitOf, Looks, Plays, PlaysReady, SetsUp, play_call}
-use Rattle.session.specs.Methods.{play_front, prepared_of, OffersReady}
+use Rattle.session.specs.Methods.{GetsParameter, PlaysReady, OffersReady}
 use Rattle.session.specs.OfferLaws.{IsLeastBufferReply, IsWaitIn}
 use Rattle.rtsp_replies.specs.PublicLaws.{IsPublicTold}
 use Rattle.session_laws.specs.RefusalLaws.{IsRefusedBy}
 use Rattle.session_laws.specs.ReplyContents.{IsDescribeReply, IsSetupReply}
-use Rattle.session.specs.RefusalOrder.{FitsFilm, FitsSession, IsOwnFilm, IsOwnSession, IsSpoken, IsTimely}
-use Rattle.rtsp_methods.specs.RequiredOptions.{first_of}
-use Rattle.rtsp_methods.specs.Methods.{IsTopic, IsWord, name_of}
-use Rattle.rtsp_replies.specs.Replies.{code_of, plain_text, public_text, refusal_text, session_text}
-use Rattle.session.specs.RequestedPlans.{HasNoPlan, IsPlanned}
-use Rattle.rtsp_methods.specs.Refusals.{curve_refusal}
-use Rattle.film_streams.specs.SettingRanges.{AreFilms}
-use Rattle.film_streams.specs.Setups.{IsSetupRead, AreChannelsOf, HasChannels, IsChosen}
-use Rattle.session.specs.SessionStates.{SessionState, has_session_in, with_reply}
+use Rattle.session.specs.RefusalOrder.{FitsFilm, IsSpoken}
+use Rattle.film_streams.specs.Setups.{HasChannels}
 use Rattle.session.proofs.InitialStateLemmas.{HeardMessage, PlayInHand}
 use Rattle.session_laws.proofs.RequestReadings.{TakenUp, as_read, taken_up}
 use Rattle.session_laws.proofs.OfferLemmas.{least_told, offer_asked, wait_in}
@@ -77,7 +62,8 @@ pub exists_in : (s : State) (setup : Setup) → setup_in s ≡ Some setup → ha
 exists_in Init setup is = absurd (let no : ⊥ = cc in no)
 exists_in _ setup is = refl
 
-pub own_film : (s : State) (film : ℕ) → ((setup : Setup) → setup_in s ≡ Some setup → film ≡ setup.film) → IsOwnFilm s film
+pub own_film : (s : State) (film : ℕ) → ((setup : Setup) → setup_in s ≡ Some setup → film ≡ setup.film)
+    → IsOwnFilm s film
 own_film Init film own = tt
 own_film _ film own = own _ refl
 
@@ -127,16 +113,21 @@ options_answered h request plain =
 
 -- ---- DESCRIBE
 
-described : (h : HeardMessage) (request : Request) → TakenUp h request Describe
+pub film_described : (h : HeardMessage) (request : Request) → IsDescribeRequest h.old h.message request
     → IsFilmDescribed h.old request h.ask h.new
-described h request t =
+film_described h request is =
+    let t : TakenUp h request Describe = taken_up h request Describe is.plain.is_request (record {
+      talk = record { spoken = spoken_of Describe is.plain; session = tt };
+      film = inr (is.authority, (is.film, record { named = is.named; own = tt }));
+      state = tt;
+    }) in
     let film = t.does.1.0 in
     let named = t.does.1.1.0.named in
     let describes = t.does.1.1.1 in
-    let stored : describes.stored ≡ named.film.stored =
-    film_at_once h.old.films film named.film.stored describes.stored named.film.at describes.at in
     let name : string_bytes describes.stored.name ≡ named.name =
-    ap (λ (s : Stored). string_bytes s.name) stored ∙ named.film.name_is in
+    ap (λ (s : Stored). string_bytes s.name)
+    (film_at_once h.old.films film named.film.stored describes.stored named.film.at describes.at)
+    ∙ named.film.name_is in
     record {
       alone = alone_by describes.reply;
       authority = t.does.0;
@@ -146,15 +137,6 @@ described h request t =
       at = describes.at;
       told = film_told describes named.read (ap good_name name ∙ named.read.name_is.good);
     }
-
-pub film_described : (h : HeardMessage) (request : Request) → IsDescribeRequest h.old h.message request
-    → IsFilmDescribed h.old request h.ask h.new
-film_described h request is =
-    described h request (taken_up h request Describe is.plain.is_request (record {
-      talk = record { spoken = spoken_of Describe is.plain; session = tt };
-      film = inr (is.authority, (is.film, record { named = is.named; own = tt }));
-      state = tt;
-    }))
 
 -- ---- SETUP
 
@@ -397,7 +379,8 @@ play_asked {given} h r is run =
     let range = range_of r.request in
     (elim p.planned as (λ found. IsPlanned h.old r.setup r.paused range found
     → AsksPlayOr h.old (play_call r.request.sequence p.authority r.setup) found h.ask h.new
-    → IsPlayAskedOf h.old r.request r.setup r.paused h.ask h.new ⊎ IsRefusedBy h.old 500 r.request.sequence h.ask h.new) [
+    → IsPlayAskedOf h.old r.request r.setup r.paused h.ask h.new
+    ⊎ IsRefusedBy h.old 500 r.request.sequence h.ask h.new) [
       | Ok planned ↦ λ its asks. elim asks [
         | inl asked ↦ inl (planned_asks p its asked)
         | inr refused ↦ inr (refused_as h r.request.sequence Memory [] refused)
@@ -518,7 +501,8 @@ offers_done {n} {wait} {setup} {paused} h offers =
         | inr refused ↦ inr (NoMemory (refused_as h n Memory [] refused))
       ]
       | Err refusal ↦ λ is refused.
-          inr (plan_refusal h (record { setup = setup; paused = paused; range = None; sequence = n }) refusal is refused)
+          inr (plan_refusal h (record { setup = setup; paused = paused; range = None; sequence = n }) refusal is
+          refused)
     ]) offers.is_planned offers.asks
 
 pub offer_ready : (h : HeardMessage) (r : ReadyRequest h) (wait : ℕ) → OfferRequest h r.request

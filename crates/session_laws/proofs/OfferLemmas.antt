@@ -2,32 +2,20 @@
 use Rattle.std.proofs.Common.{◌≡◌, ℕ, List, [], ◌∷◌, ◌++◌, map, flat_map, codes, decimal, Option, Some, None}
 use Rattle.std.proofs.Common.{append_assoc, refl, sym, ap, subst, ◌∙◌, arith}
 use Rattle.std.proofs.lemmas.List.Concat.{flat_map-cons}
-use Rattle.plan_cert.specs.declared.Segment.{Segment}
-use Rattle.wire_curve.specs.declared.film.Timing.{Timing}
+use Rattle.session.proofs.SharedTerms.{after_offer, curve_refusal, CurveRefused, field, HasNoPlan, header_value}
+use Rattle.session.proofs.SharedTerms.{IsWaitOf, offer_body, OfferNote, Offers, playback_of, refusal_text, rest_sizes}
+use Rattle.session.proofs.SharedTerms.{Run, run_of, Segment, sequence_of, SessionState, Setup, stored_sizes, Timing}
+use Rattle.session.proofs.SharedTerms.{timing_of}
+use Rattle.rtsp_text.specs.Replies.{value_named}
 use Rattle.wire_curve.specs.declared.film.CurveFault.TheVariants.{BufferTooSmall}
-use Rattle.wire_curve.specs.declared.film.CurveRefused.{CurveRefused}
 use Rattle.wire_curve.specs.declared.film.CurveRefused.TheVariants.{Fault}
 use Rattle.wire_curve.specs.CurveFaults.{IsBufferTooSmall, IsRefused as HaveNoCurves}
-use Rattle.early_start.specs.StartSearch.{Offers}
 use Rattle.early_start.specs.declared.Tried.{Tried}
-use Rattle.film_run.specs.declared.runs.Run.{Run}
-use Rattle.film_run.specs.Plans.{rest_sizes, timing_of}
-use Rattle.film_run.specs.Units.{stored_sizes}
-use Rattle.rtsp_text.specs.Fields.{header_value}
-use Rattle.rtsp_text.specs.Replies.{value_named}
 use Rattle.session.specs.declared.commands.Ask.TheVariants.{Offer as AskOffer}
-use Rattle.session_records.specs.declared.notes.OfferNote.{OfferNote}
 use Rattle.rtsp_methods.specs.declared.refusals.Refusal.TheVariants.{Buffer}
-use Rattle.film_streams.specs.declared.setups.Setup.{Setup}
-use Rattle.session.specs.RequestSteps.{after_offer}
-use Rattle.session.specs.Methods.{IsWaitOf}
 use Rattle.session.specs.OfferLaws.{IsLeastBuffer, IsLeastBufferReply, IsOfferAsked, IsOfferReply, IsWaitIn, found_line}
 use Rattle.session.specs.OfferLaws.{tried_line}
-use Rattle.session.specs.RequestedPlans.{HasNoPlan}
-use Rattle.session.specs.RunRequests.{playback_of, run_of}
-use Rattle.rtsp_methods.specs.Refusals.{curve_refusal}
-use Rattle.rtsp_replies.specs.Replies.{field, joined_parts, offer_body, over_line, refusal_text, start_line}
-use Rattle.session.specs.SessionStates.{SessionState, sequence_of}
+use Rattle.rtsp_replies.specs.Replies.{joined_parts, over_line, start_line}
 use Rattle.session.proofs.InitialStateLemmas.{HeardMessage}
 use Rattle.session.proofs.RequestCaseAnalysis.{Answer, SeeksOffer, answer_to, asks_as}
 
@@ -44,7 +32,8 @@ answer_asks : {plan : List Segment} {offers : Offers} (h : HeardMessage) → h.a
 answer_asks {plan} {offers} h offers_ask (SeeksOffer offer planned is asks) =
     let request = offer.taken.request in
     let same : offers ≡ asks.offers = cc (asks.command, offers_ask) in
-    let its = wait_in request.head.now (header_value request.head.now (codes "x-Wait")) offer.wait refl offer.has_wait in
+    let its = wait_in request.head.now (header_value request.head.now (codes "x-Wait")) offer.wait refl
+    offer.has_wait in
     record {
       request = request;
       setup = offer.setup;

@@ -1,33 +1,28 @@
 -- What a PAUSE and a TEARDOWN come to.
 use Rattle.std.proofs.Common.{◌≡◌, ℕ, ◌⊎◌, ◌&&◌, Bool, true, false, cond, List, [], ◌∷◌, Some, codes, refl, sym, ap}
 use Rattle.std.proofs.Common.{subst, ◌∙◌, inl, inr}
-use Rattle.pacer.specs.PacerStates.{next_boundary}
-use Rattle.rtsp_text.specs.Replies.{value_named}
-use Rattle.rtsp_text.specs.declared.requests.Request.{Request}
+use Rattle.session.proofs.SharedTerms.{after_halt, after_play, AsksHalt, Ends, field, Hears, is_between, is_sending}
+use Rattle.session.proofs.SharedTerms.{is_taken, IsReadAs, IsTimely, Method, new_session_state, next_boundary, next_of}
+use Rattle.session.proofs.SharedTerms.{option_of, Pauses, Request, sent_due, sent_reply, sent_slot, session_text}
+use Rattle.session.proofs.SharedTerms.{SessionState, Setup, stepped_in, TearsDown}
 use Rattle.session.specs.declared.commands.Ask.{Ask}
-use Rattle.session.specs.declared.commands.Ask.TheVariants.{Reply, Halt as AskHalt}
 use Rattle.session.specs.declared.states.Awaited.{Awaited}
+use Rattle.session.specs.declared.states.Play.{Play as Played}
+use Rattle.session.specs.declared.states.State.{State}
+use Rattle.rtsp_text.specs.Replies.{value_named}
+use Rattle.session.specs.declared.commands.Ask.TheVariants.{Reply, Halt as AskHalt}
 use Rattle.session.specs.declared.states.Awaited.TheVariants.{Halt as ToHalt}
 use Rattle.session.specs.declared.states.AfterHalt.TheVariants.{Done, Torn}
-use Rattle.session.specs.declared.states.Play.{Play as Played}
-use Rattle.film_streams.specs.declared.setups.Setup.{Setup}
-use Rattle.session.specs.declared.states.State.{State}
 use Rattle.session.specs.declared.states.State.TheVariants.{Playing}
 use Rattle.session_laws.specs.EndLaws.{CanBePaused, CanBeTornDown, EndsSession, HaltsPlay, HasTeardown, IsPausedPlay}
 use Rattle.session_laws.specs.EndLaws.{IsPause, HasSessionInReply, IsTeardownHeard, IsTornDown}
 use Rattle.session.specs.Laws.{IsTeardown, stage_of}
-use Rattle.session.specs.RefusalOrder.{IsReadAs, IsTimely}
-use Rattle.session.specs.RequestSteps.{Hears, after_halt, is_torn, new_session_state}
-use Rattle.rtsp_methods.specs.declared.methods.Method.{Method}
+use Rattle.session.specs.RequestSteps.{is_torn}
 use Rattle.rtsp_methods.specs.declared.methods.Method.TheVariants.{Pause, Teardown}
-use Rattle.rtsp_methods.specs.RequiredOptions.{option_of}
 use Rattle.session.specs.LookLaws.{SessionEvent, Message, Halt, Slot, Sending, AreAfter, IsAfter}
-use Rattle.session.specs.Methods.{AsksHalt, Ends, Pauses, TearsDown}
 use Rattle.session_laws.specs.PlayLaws.{IsDeclined, PassesEarlierChecks}
-use Rattle.rtsp_replies.specs.Replies.{field, session_text}
-use Rattle.session.specs.SlotSteps.{after_play, is_between, is_done_in, is_sending, is_taken, next_of, sent_due}
-use Rattle.session.specs.SlotSteps.{sent_in, sent_reply, sent_slot, stepped_in}
-use Rattle.session.specs.SessionStates.{SessionState, is_playing_in}
+use Rattle.session.specs.SlotSteps.{is_done_in, sent_in}
+use Rattle.session.specs.SessionStates.{is_playing_in}
 use Rattle.session.proofs.InitialStateLemmas.{Beginning, HeardMessage, heard_by}
 use Rattle.session.proofs.RequestCaseAnalysis.{Answer, Replies, SetsUp, StopsPlay, EndsSession as EndsAlone, answer_to}
 use Rattle.session.proofs.RequestCaseAnalysis.{by_answer, is_teardown, made_by}

@@ -1,38 +1,26 @@
 -- A PLAY asks for one run and one plan.
 use Rattle.std.proofs.Common.{◌≡◌, ℕ, ◌≤◌, ◌⊎◌, List, Option, Some, None, Result, Ok, Err, refl, sym, ap, subst, ◌∙◌}
 use Rattle.std.proofs.Common.{inl, inr, arith}
+use Rattle.session.proofs.SharedTerms.{Counts, counts_for, curve_refusal, CurveRefused, Film, HasNoPlan, IsAskedRun}
+use Rattle.session.proofs.SharedTerms.{IsFilmAt, IsPlanned, IsPlannedRun, IsRequestedRange, IsRequestFor, Origin}
+use Rattle.session.proofs.SharedTerms.{picture_time, playback_of, Refusal, rest_sizes, Run, run_of, Segment}
+use Rattle.session.proofs.SharedTerms.{SessionState, Setup, Span, Stored, stored_sizes, Timing, timing_of}
+use Rattle.session.specs.declared.plans.Planned.{Planned}
+use Rattle.session.specs.declared.play_requests.PlayRequest.{PlayRequest}
 use Rattle.mpeg_scan.specs.declared.units.Unit.{Unit as PictureUnit}
-use Rattle.mpeg_scan.specs.declared.films.Film.{Film}
-use Rattle.plan_cert.specs.declared.Segment.{Segment}
-use Rattle.wire_curve.specs.declared.film.Timing.{Timing}
 use Rattle.wire_curve.specs.declared.film.CurveFault.TheVariants.{NoPictures, TooManySlots, BufferTooSmall}
-use Rattle.wire_curve.specs.declared.film.CurveRefused.{CurveRefused}
 use Rattle.wire_curve.specs.declared.film.CurveRefused.TheVariants.{Fault, NoMemory}
 use Rattle.wire_curve.specs.CurveFaults.{IsAccepted, IsBufferTooSmall, IsRefused}
-use Rattle.film_frames.specs.declared.stored_films.Stored.{Stored}
-use Rattle.film_run.specs.declared.runs.Run.{Run}
-use Rattle.film_run.specs.Plans.{IsPlanOf, rest_sizes, timing_of}
+use Rattle.film_run.specs.Plans.{IsPlanOf}
 use Rattle.film_run.specs.Runs.{IsNewRun}
-use Rattle.film_run.specs.Seeks.{IsRequestedRange, IsEnd, IsGroupBy, IsGroupFrom}
-use Rattle.film_run.specs.Units.{film_sizes, stored_sizes}
+use Rattle.film_run.specs.Seeks.{IsEnd, IsGroupBy, IsGroupFrom}
+use Rattle.film_run.specs.Units.{film_sizes}
 use Rattle.film_run.proofs.PlanLemmas.{sending-one}
-use Rattle.mpeg_scan.specs.PictureRates.{picture_time}
-use Rattle.rtsp_fields.specs.declared.ranges.Origin.{Origin}
 use Rattle.rtsp_fields.specs.declared.ranges.Origin.TheVariants.{Now, At}
-use Rattle.rtsp_fields.specs.declared.ranges.Span.{Span}
-use Rattle.session.specs.declared.plans.Planned.{Planned}
-use Rattle.rtsp_methods.specs.declared.refusals.Refusal.{Refusal}
 use Rattle.rtsp_methods.specs.declared.refusals.Refusal.TheVariants.{Memory}
-use Rattle.film_streams.specs.declared.stream_numbers.Counts.{Counts}
-use Rattle.film_streams.specs.declared.setups.Setup.{Setup}
-use Rattle.session.specs.declared.play_requests.PlayRequest.{PlayRequest}
 use Rattle.session.specs.declared.play_requests.PlayRequest.TheVariants.{Resumed, New}
-use Rattle.film_streams.specs.Films.{IsFilmAt}
-use Rattle.session.specs.RequestedPlans.{HasNoPlan, HasNoRun, IsPlanned, IsPlannedRun}
-use Rattle.session.specs.RunRequests.{IsAskedRun, IsNoRange, IsRequestFor, RequestsNothing, counts_for, playback_of}
-use Rattle.session.specs.RunRequests.{run_of}
-use Rattle.rtsp_methods.specs.Refusals.{curve_refusal}
-use Rattle.session.specs.SessionStates.{SessionState}
+use Rattle.session.specs.RequestedPlans.{HasNoRun}
+use Rattle.session.specs.RunRequests.{IsNoRange, RequestsNothing}
 use Rattle.session.proofs.ResumedPlayLemmas.{span_of_once}
 
 pub film_at_once : (films : List Stored) (number : ℕ) (one other : Stored) → IsFilmAt films number one
@@ -71,15 +59,13 @@ end_once units picture (Some time) after is its =
 new_run_once : {sizes : List ℕ} {first end : ℕ} {one other : Run} → IsNewRun sizes first end one
     → IsNewRun sizes first end other
     → other ≡ one
-new_run_once {first} {end} {one} {other} is its =
-    let R : ℕ → ℕ → ℕ → ℕ → ℕ → Run =
-    λ f e u s p. record { first_unit = f; end_unit = e; from_unit = u; sent = s; played = p } in
-    let a = ap (λ n. R n other.end_unit other.from_unit other.sent other.played) (its.first_is ∙ sym is.first_is) in
-    let b = ap (λ n. R one.first_unit n other.from_unit other.sent other.played) (its.end_is ∙ sym is.end_is) in
-    let c = ap (λ n. R one.first_unit one.end_unit n other.sent other.played) (its.from_is ∙ sym is.from_is) in
-    let d = ap (λ n. R one.first_unit one.end_unit one.from_unit n other.played) (its.sent_is ∙ sym is.sent_is) in
-    let e = ap (λ n. R one.first_unit one.end_unit one.from_unit one.sent n) (its.played_is ∙ sym is.played_is) in
-    a ∙ b ∙ c ∙ d ∙ e
+new_run_once is its = λ i. record {
+  first_unit = (its.first_is ∙ sym is.first_is) i;
+  end_unit = (its.end_is ∙ sym is.end_is) i;
+  from_unit = (its.from_is ∙ sym is.from_is) i;
+  sent = (its.sent_is ∙ sym is.sent_is) i;
+  played = (its.played_is ∙ sym is.played_is) i;
+}
 
 asked_once : {film : Film} {from : ℕ} {to : Option ℕ} {one other : Run} → IsRequestedRange film from to one
     → IsRequestedRange film from to other → other ≡ one
@@ -237,9 +223,7 @@ planned_run_once p one other given again =
     let plan : other.plan ≡ one.plan =
     sending-one sizes playback one.run one.plan (record { can_play = is.can_play; plan_is = is.plan_is })
     other.plan (subst (λ (r : Run). IsPlanOf sizes playback r other.plan) run its.plan_is) in
-    let P : Run → Counts → List Segment → Planned = λ r c p. record { run = r; counts = c; plan = p } in
-    ap (λ r. P r other.counts other.plan) run ∙ ap (λ c. P one.run c other.plan) counts ∙ ap
-    (λ p. P one.run one.counts p) plan
+    λ i. record { run = run i; counts = counts i; plan = plan i }
 
 -- a plan, and none
 pub plan_or_none : (p : PlanAsked) (planned : Planned) (refusal : Refusal)
@@ -260,15 +244,10 @@ no_plan_once : (p : PlanAsked) (one other : Refusal) → HasNoPlan p.old p.setup
     → HasNoPlan p.old p.setup p.paused p.range other → (other ≡ one) ⊎ ((one ≡ Memory) ⊎ (other ≡ Memory))
 no_plan_once p one other is that =
     let n = no_plan_of {p = p} is.stored is.at that in
-    elim (curves_once (rest_sizes (stored_sizes is.stored) (run_of is.wanted))
-    (timing_of (playback_of is.stored.film p.old.settings p.setup)
-    (run_of is.wanted)) is.refused n.refused is.no_curves (same_curves n (ap run_of (asked_run_once is.asked n.asked)))) [
-      | inl same ↦ inl (n.refusal_is ∙ same ∙ sym is.refusal_is)
-      | inr lacks ↦ elim lacks [
-        | inl first ↦ inr (inl (is.refusal_is ∙ first))
-        | inr second ↦ inr (inr (n.refusal_is ∙ second))
-      ]
-    ]
+    let timing = timing_of (playback_of is.stored.film p.old.settings p.setup) (run_of is.wanted) in
+    let same = same_curves n (ap run_of (asked_run_once is.asked n.asked)) in
+    rw (is.refusal_is, n.refusal_is)
+    (curves_once (rest_sizes (stored_sizes is.stored) (run_of is.wanted)) timing is.refused n.refused is.no_curves same)
 
 refused_once : (p : PlanAsked) (one other : Refusal) → IsPlanned p.old p.setup p.paused p.range (Err one)
     → IsPlanned p.old p.setup p.paused p.range (Err other) → (other ≡ one) ⊎ ((one ≡ Memory) ⊎ (other ≡ Memory))
@@ -288,8 +267,6 @@ planned_once p (Err one) (Ok other) is its = inr (inl (ap (λ r. Err r) (plan_or
 planned_once p (Err one) (Err other) is its =
     elim (refused_once p one other is its) [
       | inl same ↦ inl (ap (λ r. Err r) same)
-      | inr lacks ↦ elim lacks [
-        | inl first ↦ inr (inl (ap (λ r. Err r) first))
-        | inr second ↦ inr (inr (ap (λ r. Err r) second))
-      ]
+      | inr (inl first) ↦ inr (inl (ap (λ r. Err r) first))
+      | inr (inr second) ↦ inr (inr (ap (λ r. Err r) second))
     ]

@@ -1,13 +1,10 @@
 -- A session asks the station for a play where it received a PLAY in Ready, and nowhere else.
 use Rattle.std.proofs.Common.{◌≡◌, codes, sym, ap, ◌∙◌}
-use Rattle.rtsp_text.specs.Fields.{header_value}
+use Rattle.session.proofs.SharedTerms.{AsksPlay, header_value, IsPlannedRun, prepared_of, SessionState}
 use Rattle.session.specs.declared.plans.Planned.{Planned}
 use Rattle.session.specs.declared.states.Awaited.{Awaited}
-use Rattle.session.specs.declared.states.Awaited.TheVariants.{Nothing, Play}
 use Rattle.session.specs.declared.states.Prepared.{Prepared}
-use Rattle.session.specs.Methods.{prepared_of, AsksPlay}
-use Rattle.session.specs.RequestedPlans.{IsPlannedRun}
-use Rattle.session.specs.SessionStates.{SessionState}
+use Rattle.session.specs.declared.states.Awaited.TheVariants.{Nothing, Play}
 use Rattle.session.proofs.InitialStateLemmas.{HeardMessage}
 use Rattle.session.proofs.RequestCaseAnalysis.{Answer, StartsPlay, ReadyPlay, answer_to, by_answer, made_by}
 

@@ -3,45 +3,35 @@
 use Rattle.std.proofs.Common.{◌≡◌, ℕ, ◌+◌, ◌≤◌, false, ◌++◌, length, Option, slice_get, refl, sym, ap, subst, ◌∙◌}
 use Rattle.std.proofs.Common.{arith, Bool, List}
 use Rattle.std.proofs.lemmas.List.{take_all}
-use Rattle.plan_cert.specs.PlanSlots.{total_bytes}
-use Rattle.film_frames.specs.declared.stored_films.Stored.{Stored}
-use Rattle.film_frames.specs.Pieces.{frames_in, octets_in}
-use Rattle.film_frames.specs.FramedRuns.{FramedRun, count_ended, frames_before, octets_before, pieces_in, run_pieces}
-use Rattle.film_frames.specs.FramedRuns.{sent_by}
-use Rattle.film_frames.specs.Tracks.{IsBoundaryAfter, framed_bytes}
-use Rattle.film_frames.proofs.RunBytesLemmas.{blocks_from-count, count_ended-is}
-use Rattle.film_frames.proofs.TrackLemmas.{begin-all}
-use Rattle.pacer.specs.Boundaries.{boundary_from}
-use Rattle.pacer.specs.PacerStates.{IsPacerState, next_boundary, new_pacer_state}
-use Rattle.pacer.proofs.PacerStateLemmas.{boundary-from}
-use Rattle.session.specs.declared.commands.Ask.TheVariants.{Halt as AskHalt}
-use Rattle.session.specs.declared.states.Awaited.{Awaited}
-use Rattle.session.specs.declared.states.Awaited.TheVariants.{Nothing, Play, Halt}
-use Rattle.film_streams.specs.declared.stream_numbers.Counts.{Counts}
+use Rattle.session.proofs.SharedTerms.{admitted_in, after_admission, after_halt, awaited_answer_of, AwaitsNoAnswer}
+use Rattle.session.proofs.SharedTerms.{boundary-from, boundary_from, Counts, counts_after, counts_next, framed_bytes}
+use Rattle.session.proofs.SharedTerms.{FramedRun, frames_before, GoesOn, HaltAnswer, identity_of, is_answered}
+use Rattle.session.proofs.SharedTerms.{IsAwaitedInvariant, IsBoundaryAfter, IsFilmAt, IsPacedPlay, IsPacerState}
+use Rattle.session.proofs.SharedTerms.{IsPlayable, IsStateInvariant, kept_of, next_boundary, next_of, note_of}
+use Rattle.session.proofs.SharedTerms.{octets_before, prepared_of, run_pieces, sending_of, SessionContext, SessionState}
+use Rattle.session.proofs.SharedTerms.{Setup, Stored, total_bytes}
 use Rattle.session.specs.declared.states.AfterHalt.{AfterHalt}
-use Rattle.session.specs.declared.states.AfterHalt.TheVariants.{Done}
+use Rattle.session.specs.declared.states.Awaited.{Awaited}
 use Rattle.session.specs.declared.states.Play.{Play as Played}
 use Rattle.session.specs.declared.states.State.{State}
+use Rattle.film_frames.specs.Pieces.{frames_in, octets_in}
+use Rattle.film_frames.specs.FramedRuns.{count_ended, pieces_in, sent_by}
+use Rattle.film_frames.proofs.RunBytesLemmas.{blocks_from-count, count_ended-is}
+use Rattle.film_frames.proofs.TrackLemmas.{begin-all}
+use Rattle.pacer.specs.PacerStates.{new_pacer_state}
+use Rattle.session.specs.declared.commands.Ask.TheVariants.{Halt as AskHalt}
+use Rattle.session.specs.declared.states.Awaited.TheVariants.{Nothing, Play, Halt}
+use Rattle.session.specs.declared.states.AfterHalt.TheVariants.{Done}
 use Rattle.session.specs.declared.states.State.TheVariants.{Ready, Playing}
-use Rattle.session.specs.RunRequests.{sending_of, IsPlayable}
-use Rattle.film_streams.specs.Films.{IsFilmAt}
-use Rattle.film_streams.specs.StreamNumbers.{counts_after, identity_of}
 use Rattle.session.specs.RequestEffects.{IsPlayAsked}
-use Rattle.session.specs.RequestSteps.{after_admission, after_halt, counts_of, counts_done, counts_next, halted_counts}
-use Rattle.session.specs.RequestSteps.{is_answered}
-use Rattle.session.specs.Laws.{GoesOn}
-use Rattle.session.specs.Methods.{prepared_of}
+use Rattle.session.specs.RequestSteps.{counts_of, counts_done, halted_counts}
 use Rattle.session_laws.specs.PlayLaws.{HasCountedAll, IsNoted, IsSentAsAsked, KeepsToBoundary}
-use Rattle.session.specs.SlotSteps.{admitted_in, halted_notes, kept_of, next_of, note_of}
-use Rattle.session.specs.SessionStates.{HaltAnswer, SessionState, awaited_answer_of, AwaitsNoAnswer}
+use Rattle.session.specs.SlotSteps.{halted_notes}
 use Rattle.session.proofs.StepInvariantLemmas.{nothing_of}
 use Rattle.session.proofs.InitialStateLemmas.{HeardMessage, PlayInHand}
 use Rattle.session_laws.proofs.RtpNumberLemmas.{identity_goes_on}
 use Rattle.session.proofs.RequestCaseAnalysis.{Answer, HaltsPlay, StopsPlay, answer_to, asks_as}
-use Rattle.film_streams.specs.declared.setups.Setup.{Setup}
-use Rattle.session.specs.ResumedPlays.{IsPacedPlay}
-use Rattle.session.specs.SessionInvariant.{IsAwaitedInvariant, IsSoundState, IsStateInvariant, SessionContext}
-use Rattle.session.specs.SessionInvariant.{context_of}
+use Rattle.session.specs.SessionInvariant.{IsSoundState, context_of}
 
 -- a session in Playing
 sound_play : {old : SessionState} (hand : PlayInHand old) → IsSoundState old

@@ -3,44 +3,29 @@
 use Rattle.std.proofs.Common.{◌≡◌, ℕ, length, ◌*◌, ◌≤◌, Bool, true, List, Option, Some, None, is_some, codes, Err, refl}
 use Rattle.std.proofs.Common.{sym, ap, subst, ◌∙◌, inl, inr, arith}
 use Rattle.std.specs.Bool.{⊤}
-use Rattle.mpeg_scan.specs.declared.films.Film.{Film}
-use Rattle.mpeg_scan.specs.PictureRates.{picture_time}
-use Rattle.film_frames.specs.declared.stored_films.Stored.{Stored}
-use Rattle.film_run.specs.declared.runs.Run.{Run}
-use Rattle.film_run.specs.Seeks.{IsRequestedRange}
-use Rattle.rtsp_fields.specs.Ranges.{IsSpan}
-use Rattle.rtsp_fields.specs.declared.ranges.Origin.{Origin}
-use Rattle.rtsp_fields.specs.declared.ranges.Origin.TheVariants.{Now}
-use Rattle.rtsp_fields.specs.declared.ranges.Span.{Span}
-use Rattle.rtsp_text.specs.Fields.{header_value}
-use Rattle.rtsp_text.specs.declared.requests.Request.{Request}
+use Rattle.session.proofs.SharedTerms.{code_of, Film, first_of, FitsSession, HasCode, header_value, Hears, IsJudged}
+use Rattle.session.proofs.SharedTerms.{IsOwnSession, IsPlannedRun, IsReadAs, IsRefused, IsRequestedRange, IsRequestFor}
+use Rattle.session.proofs.SharedTerms.{IsSpan, IsTimely, Method, option_of, Origin, picture_time, Refusal, refusal_text}
+use Rattle.session.proofs.SharedTerms.{Request, required_of, Run, run_of, SessionState, Span, Stored, with_reply}
 use Rattle.session.specs.declared.commands.Ask.{Ask}
-use Rattle.rtsp_methods.specs.declared.methods.Method.{Method}
-use Rattle.rtsp_methods.specs.declared.methods.Method.TheVariants.{Options, Describe, Setup, Play, Pause, GetParameter}
 use Rattle.session.specs.declared.plans.Planned.{Planned}
 use Rattle.session.specs.declared.play_requests.PlayRequest.{PlayRequest}
+use Rattle.rtsp_fields.specs.declared.ranges.Origin.TheVariants.{Now}
+use Rattle.rtsp_methods.specs.declared.methods.Method.TheVariants.{Options, Describe, Setup, Play, Pause, GetParameter}
 use Rattle.session.specs.declared.play_requests.PlayRequest.TheVariants.{Resumed, New}
-use Rattle.rtsp_methods.specs.declared.refusals.Refusal.{Refusal}
 use Rattle.rtsp_methods.specs.declared.refusals.Refusal.TheVariants.{Method as Unknown, Option as Required, Session}
 use Rattle.rtsp_methods.specs.declared.refusals.Refusal.TheVariants.{Film as NoFilm, State as NotNow, BadRequest}
 use Rattle.film_streams.specs.declared.setups.Setup.{Setup as SetupIs}
 use Rattle.session.specs.Laws.{Resumes}
-use Rattle.session.specs.Methods.{IsRefused}
 use Rattle.session_laws.specs.PlayLaws.{PassesEarlierChecks, HasRangeInPlaying, IsDeclined}
 use Rattle.session_laws.specs.RefusalLaws.{BeginsFilm, IsForeign, IsInvalidMethod, IsKnownMethod, IsOfNoFilm}
 use Rattle.session_laws.specs.RefusalLaws.{IsOfNoSession, IsRefusedBy, IsWholeFilm, LacksSession, RequiresSomeOption}
-use Rattle.session.specs.RefusalOrder.{FitsSession, IsJudged, IsOwnSession, IsReadAs, IsTimely}
-use Rattle.rtsp_methods.specs.RequiredOptions.{first_of, option_of, required_of}
-use Rattle.rtsp_replies.specs.Replies.{code_of, refusal_fields, refusal_text}
-use Rattle.session.specs.RequestSteps.{Hears}
-use Rattle.session.specs.RequestedPlans.{IsPlannedRun}
-use Rattle.session.specs.RunRequests.{IsRequestFor, run_of}
-use Rattle.session.specs.SessionStates.{SessionState, with_reply, is_playing_in}
+use Rattle.rtsp_replies.specs.Replies.{refusal_fields}
+use Rattle.session.specs.SessionStates.{is_playing_in}
 use Rattle.session.proofs.InitialStateLemmas.{HeardMessage, heard_by}
 use Rattle.session.proofs.ResumedPlayLemmas.{span_of_once}
 use Rattle.session_laws.proofs.RequestReadings.{refused_in, IsStopped, IsTakenUp, heard_method}
 use Rattle.session_laws.proofs.RtpNumberLemmas.{goes_on_from_now}
-use Rattle.session.specs.RequestEffects.{HasCode}
 use Rattle.session.proofs.ReplyCodeLemmas.{one_code, own_code, refusal_code}
 
 -- a received request, read so
@@ -73,7 +58,8 @@ pub refused_by : (r : HeardRequest) (refusal : Refusal)
     → IsJudged r.heard.old.films r.heard.old.id r.heard.old.state r.request (Err refusal)
     → IsRefusedBy r.heard.old (code_of refusal) r.request.sequence r.heard.ask r.heard.new
 refused_by r refusal own =
-    refused_as r.heard r.request.sequence refusal (option_of r.request.head.now) (refused_in r.heard r.request refusal r.is own)
+    refused_as r.heard r.request.sequence refusal (option_of r.request.head.now)
+    (refused_in r.heard r.request refusal r.is own)
 
 pub unknown_refused : (r : HeardRequest) → ¬ IsKnownMethod r.request
     → IsRefusedBy r.heard.old 501 r.request.sequence r.heard.ask r.heard.new

@@ -8,13 +8,8 @@ use Rattle.std.specs.List.{list_all}
 use Rattle.std.proofs.lemmas.Bool.{and_parts}
 use Rattle.std.proofs.lemmas.List.{append-nil, append_assoc, drop_at, get_or-append_right, get_or-drop, get_or-take}
 use Rattle.std.proofs.lemmas.List.{get_or_append_left, length-append, length-drop, length-take, take_all, take_at}
-use Rattle.vod_base.specs.Names.{good_name, is_name_byte}
-use Rattle.mpeg_scan.specs.declared.films.Film.{Film}
-use Rattle.mpeg_scan.specs.PictureRates.{picture_time}
-use Rattle.film_frames.specs.declared.stored_films.Stored.{Stored}
-use Rattle.film_frames.specs.FramedRuns.{frames_before}
+use Rattle.vod_base.specs.Names.{is_name_byte}
 use Rattle.rtsp_fields.specs.Sdp.{description_text, seconds_text}
-use Rattle.rtsp_fields.specs.Ranges.{IsSpan}
 use Rattle.rtsp_fields.specs.Urls.{IsRead, IsTail, NamesFilm}
 use Rattle.rtsp_fields.specs.declared.ranges.Origin.TheVariants.{At}
 use Rattle.rtsp_fields.proofs.RequestUrls.{absolute_cut, absolute_url}
@@ -22,24 +17,24 @@ use Rattle.rtsp_fields.proofs.DescriptionLines.{description_is}
 use Rattle.rtsp_fields.proofs.FilmPaths.{film_path}
 use Rattle.rtsp_fields.proofs.RangeTexts.{between_read}
 use Rattle.rtsp_text.specs.Grammar.{is_url_byte}
-use Rattle.rtsp_text.specs.Replies.{Field, field_line, reply_front, value_named, reply_text}
+use Rattle.rtsp_text.specs.Replies.{field_line, value_named}
 use Rattle.rtsp_text.proofs.LineBounds.{all-append, all-drop, all-take}
 use Rattle.rtsp_text.proofs.ReplyTexts.{front_field, whole_reply}
 use Rattle.rtsp_text.proofs.UrlBytes.{name_in_url}
+use Rattle.film_streams.specs.Films.{begins_at, milliseconds_at}
+use Rattle.film_streams.specs.StreamNumbers.{timestamp_at}
+use Rattle.session.specs.RequestSteps.{after_look, after_overflow}
+use Rattle.session.specs.Methods.{first_number}
+use Rattle.session.specs.declared.states.State.TheVariants.{Ready}
+use Rattle.rtsp_replies.specs.Replies.{joined_parts, transport_value}
+use Rattle.std.specs.Int.{w32, to_be_bytes}
+use Rattle.session.proofs.SharedTerms.{after_admission, after_full, Counts, Describes, Field, field, Film}
+use Rattle.session.proofs.SharedTerms.{frames_before, good_name, identity_of, IsSetUp, IsSpan, length_ms, look_body}
+use Rattle.session.proofs.SharedTerms.{picture_time, play_front, reply_front, reply_text, sending_of, sequence_of}
+use Rattle.session.proofs.SharedTerms.{SessionState, Setup, started_text, Stored}
 use Rattle.session.specs.declared.commands.Ask.{Ask}
 use Rattle.session.specs.declared.plans.Planned.{Planned}
-use Rattle.film_streams.specs.declared.setups.Setup.{Setup}
-use Rattle.session.specs.RunRequests.{sending_of}
-use Rattle.film_streams.specs.Films.{begins_at, length_ms, milliseconds_at}
-use Rattle.film_streams.specs.StreamNumbers.{identity_of, timestamp_at}
-use Rattle.session.specs.RequestSteps.{after_admission, after_full, after_look, after_overflow}
-use Rattle.session.specs.Methods.{Describes, IsSetUp, first_number, play_front}
-use Rattle.session.specs.declared.states.State.TheVariants.{Ready}
-use Rattle.rtsp_replies.specs.Replies.{field, joined_parts, look_body, transport_value, started_text}
-use Rattle.session.specs.SessionStates.{SessionState, sequence_of}
-use Rattle.std.specs.Int.{w32, to_be_bytes}
 use Rattle.hex.specs.Hex.{encode_lower}
-use Rattle.film_streams.specs.declared.stream_numbers.Counts.{Counts}
 use Rattle.session_laws.specs.ReplyContents.{AreTicks, IsDescribeReply, IsFullReply, IsLookReply, IsOverflowReply}
 use Rattle.session_laws.specs.ReplyContents.{IsPlayReply, IsSetupReply, IsShort, HasStartInReply, IsPrintable}
 use Rattle.session_laws.specs.ReplyContents.{HasRtpInfo, HasRangeOf}
@@ -152,11 +147,11 @@ film_url authority name tail is good is_tail =
                   (sym (get_or_append_left authority path 0 (k - 7) inside)
                   ∙ sym (get_or-append_right (codes "rtsp://") (authority ++ path) 7 k 0 refl after) ∙ slash);
               ends = λ inside.
-                  get_or-append_right (codes "rtsp://") (authority ++ path) 7 (7 + length authority) 0 refl (omega arith)
-                  ∙ get_or-append_right authority path (length authority) (7 + length authority - 7) 0 refl (omega
-                  arith)
-                  ∙ ap (λ k. get_or path k 0) (let none : 7 + length authority - 7 - length authority ≡ 0 =
-                  omega arith in none);
+                  let none : 7 + length authority - 7 - length authority ≡ 0 = omega arith in
+                  get_or-append_right (codes "rtsp://") (authority ++ path) 7 (7 + length authority) 0 refl
+                  (omega arith)
+                  ∙ get_or-append_right authority path (length authority) (7 + length authority - 7) 0 refl
+                  (omega arith) ∙ ap (λ k. get_or path k 0) none;
             };
           });
       authority_is = sym (take_at authority path (7 + length authority - 7) (omega arith));

@@ -1,20 +1,14 @@
 -- Each reply to a request has the request's CSeq.
 use Rattle.std.proofs.Common.{◌≡◌, ℕ, ◌-◌, List, [], Some, ap, refl, sym, subst}
-use Rattle.rtsp_text.specs.Replies.{reply_text, Field}
-use Rattle.rtsp_text.specs.declared.requests.Request.{Request}
-use Rattle.rtsp_text.proofs.MessageUniqueness.{no_fault, request_once}
+use Rattle.session.proofs.SharedTerms.{after_full, AsksPlay, code_of, Field, full_text, header_value, IsPlannedRun}
+use Rattle.session.proofs.SharedTerms.{IsReadAs, look_body, no_fault, offer_body, overflow_text, reply_text, Request}
+use Rattle.session.proofs.SharedTerms.{request_once, sequence_of, SessionState}
 use Rattle.session.specs.declared.commands.Ask.{Ask}
 use Rattle.session.specs.declared.plans.Planned.{Planned}
 use Rattle.session.specs.declared.refusals.Task.{Task}
-use Rattle.session.specs.Methods.{AsksPlay}
-use Rattle.session.specs.RefusalOrder.{IsReadAs}
-use Rattle.session.specs.RequestedPlans.{IsPlannedRun}
-use Rattle.rtsp_text.specs.Fields.{header_value}
-use Rattle.rtsp_replies.specs.Replies.{code_of, full_text, look_body, offer_body, overflow_text, parameters_text}
+use Rattle.rtsp_replies.specs.Replies.{parameters_text}
 use Rattle.session_laws.specs.ReplyNumbers.{HasNumber, NumbersPlay, RepliesHaveNumber}
-use Rattle.session.specs.SessionStates.{SessionState, sequence_of}
 use Rattle.session.proofs.InitialStateLemmas.{HeardMessage}
-use Rattle.session.specs.RequestSteps.{after_full}
 use Rattle.session.proofs.RequestCaseAnalysis.{Answer, Replies, SetsUp, StartsPlay, HaltsPlay, StopsPlay, EndsSession}
 use Rattle.session.proofs.RequestCaseAnalysis.{TakesLook, SeeksOffer, OwnReply, ToFault, ToRefused, ToDeclined, ToAsked}
 use Rattle.session.proofs.RequestCaseAnalysis.{ToDescribed, ToConfirmed, ToEmpty, ReadyPlay, TakenTask, answer_to}
@@ -78,4 +72,5 @@ answer_number request read (SeeksOffer offer planned is asks) = λ note.
 pub reply_number : (request : Request) (heard : HeardMessage)
     → IsReadAs heard.message request → RepliesHaveNumber request.sequence heard.ask heard.new
 reply_number request heard is =
-    let answer = answer_to heard in by_answer (RepliesHaveNumber request.sequence) answer (answer_number request is answer)
+    let answer = answer_to heard in
+    by_answer (RepliesHaveNumber request.sequence) answer (answer_number request is answer)

@@ -2,31 +2,24 @@
 -- processes.
 use Rattle.std.proofs.Common.{zero, suc, ◌≡◌, ℕ, List, Some, Result, Ok, Err, subst, ◌∙◌, inl, inr, ◌+◌, ◌*◌, ◌<◌, ◌==◌}
 use Rattle.std.proofs.Common.{◌⊎◌, if◌then◌else◌, get_or, length, None, codes, refl, sym, ap, arith, below_more}
-use Rattle.rtsp_text.specs.declared.requests.Request.{Request}
-use Rattle.rtsp_text.proofs.MessageUniqueness.{AreSameParts, Asked, no_fault, request_once}
-use Rattle.rtsp_methods.specs.Methods.{name_of}
-use Rattle.rtsp_methods.specs.RequiredOptions.{option_of, required_of}
-use Rattle.rtsp_methods.specs.declared.methods.Method.{Method}
+use Rattle.rtsp_text.proofs.MessageUniqueness.{AreSameParts, Asked}
 use Rattle.rtsp_methods.specs.declared.methods.Method.TheVariants.{Options, Describe, Setup, Play, Pause, Teardown}
 use Rattle.rtsp_methods.specs.declared.methods.Method.TheVariants.{GetParameter}
-use Rattle.rtsp_methods.specs.declared.refusals.Refusal.{Refusal}
-use Rattle.rtsp_replies.specs.Replies.{public_text}
-use Rattle.session.specs.declared.refusals.Task.{Task}
 use Rattle.session.specs.declared.refusals.Task.TheVariants.{Options as ToOptions, Describe as ToDescribe}
 use Rattle.session.specs.declared.refusals.Task.TheVariants.{Setup as ToSetup, Play as ToPlay}
-use Rattle.session.specs.Methods.{Describes, GetsParameter, HearsRequest, IsRefused, IsReplied, Pauses, Plays, SetsUp}
-use Rattle.session.specs.Methods.{Takes, TearsDown}
-use Rattle.session.specs.RefusalOrder.{IsJudged, IsOnFilm, IsReadAs, IsTaskOf, IsTimely, method_of, FitsSession}
-use Rattle.session.specs.RefusalOrder.{FitsState, HasFilm, IsOwnTalk, IsSpoken, IsTaken}
+use Rattle.session.specs.Methods.{GetsParameter, HearsRequest}
+use Rattle.session.specs.RefusalOrder.{IsOnFilm, IsTaskOf, FitsState, HasFilm, IsOwnTalk, IsSpoken}
 use Rattle.session.proofs.InitialStateLemmas.{HeardMessage, TakenRequest}
 use Rattle.std.specs.Prelude.{is_some}
 use Rattle.std.proofs.lemmas.Bool.{cases_order}
-use Rattle.film_frames.specs.declared.stored_films.Stored.{Stored}
-use Rattle.rtsp_text.specs.Fields.{header_value}
+use Rattle.session.proofs.SharedTerms.{Describes, FitsSession, has_session_in, header_value, IsJudged, IsReadAs}
+use Rattle.session.proofs.SharedTerms.{IsRefused, IsReplied, IsTaken, IsTimely, Method, method_of, name_of, no_fault}
+use Rattle.session.proofs.SharedTerms.{option_of, Pauses, Plays, public_text, Refusal, Request, request_once}
+use Rattle.session.proofs.SharedTerms.{required_of, SessionState, SetsUp, Stored, Takes, TearsDown}
+use Rattle.session.specs.declared.refusals.Task.{Task}
 use Rattle.session.specs.declared.states.State.{State as StateKind}
 use Rattle.rtsp_methods.specs.declared.refusals.Refusal.TheVariants.{Method as Unknown, Option as Required, Session}
 use Rattle.rtsp_methods.specs.declared.refusals.Refusal.TheVariants.{Film, State}
-use Rattle.session.specs.SessionStates.{SessionState, has_session_in}
 
 -- a name is that of one method
 abbrev key : List ℕ → ℕ
@@ -94,11 +87,8 @@ stops_once : {j : Judging} (n m : ℕ) → StopsAt j n → StopsAt j m → n ≡
 stops_once n m is its =
     elim (cases_order n m) [
       | inl same ↦ same
-      | inr differ ↦
-          elim differ [
-            | inl less ↦ absurd (is.at (its.before n less))
-            | inr more ↦ absurd (its.at (is.before m more))
-          ]
+      | inr (inl less) ↦ absurd (is.at (its.before n less))
+      | inr (inr more) ↦ absurd (its.at (is.before m more))
     ]
 
 none_below : (j : Judging) → PassesBelow j 0

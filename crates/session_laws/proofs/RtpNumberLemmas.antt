@@ -1,25 +1,15 @@
 -- Numbers go on from what was sent before.
-use Rattle.std.proofs.Common.{◌≡◌, ℕ, ◌+◌, ◌*◌, ◌/◌, ◌%◌, List, Option, Some, None, add_comm, refl, sym, ap, subst}
-use Rattle.std.proofs.Common.{◌∙◌, arith}
+use Rattle.std.proofs.Common.{◌≡◌, ℕ, ◌+◌, ◌*◌, ◌/◌, ◌%◌, List, Option, Some, None, add_comm, refl, sym, ap, subst, ◌∙◌}
+use Rattle.std.proofs.Common.{arith}
 use Rattle.std.proofs.Math.Nat.{add-mul-mod_self_left, mod-add-div}
-use Rattle.film_frames.specs.declared.stored_films.Stored.{Stored}
-use Rattle.film_frames.specs.FramedRuns.{FramedRun, frames_before, octets_before}
-use Rattle.film_run.specs.declared.runs.Run.{Run}
-use Rattle.mpeg_scan.specs.declared.films.Film.{Film}
-use Rattle.rtsp_fields.specs.declared.ranges.Span.{Span}
-use Rattle.rtsp_fields.specs.declared.ranges.Origin.{Origin}
-use Rattle.rtsp_fields.specs.declared.ranges.Origin.TheVariants.{Now}
+use Rattle.session.proofs.SharedTerms.{Counts, counts_after, counts_for, Film, FramedRun, frames_before, GoesOn}
+use Rattle.session.proofs.SharedTerms.{identity_of, IsPlannedRun, IsRequestFor, octets_before, Origin, Run, run_of}
+use Rattle.session.proofs.SharedTerms.{sending_of, SessionState, Setup, Span, Stored, StreamSource}
 use Rattle.session.specs.declared.plans.Planned.{Planned}
-use Rattle.film_streams.specs.declared.stream_numbers.Counts.{Counts}
-use Rattle.film_streams.specs.declared.setups.Setup.{Setup}
-use Rattle.film_streams.specs.declared.stream_numbers.StreamSource.{StreamSource}
 use Rattle.session.specs.declared.play_requests.PlayRequest.{PlayRequest}
+use Rattle.rtsp_fields.specs.declared.ranges.Origin.TheVariants.{Now}
 use Rattle.session.specs.declared.play_requests.PlayRequest.TheVariants.{Resumed, New}
-use Rattle.session.specs.RunRequests.{sending_of, IsRequestFor, counts_for, run_of}
-use Rattle.film_streams.specs.StreamNumbers.{counts_after, identity_of}
-use Rattle.session.specs.Laws.{GoesOn, Resumes}
-use Rattle.session.specs.RequestedPlans.{IsPlannedRun}
-use Rattle.session.specs.SessionStates.{SessionState}
+use Rattle.session.specs.Laws.{Resumes}
 use Rattle.film_streams.proofs.ModularSums.{sum_mod}
 
 half : (n : ℕ) → (n % 4294967296) % 65536 ≡ n % 65536

@@ -1,40 +1,27 @@
 -- What a request makes of the runs of a session, for laws on its entire course.
 use Rattle.std.proofs.Common.{◌≡◌, ℕ, ◌+◌, ◌-◌, ◌⊎◌, Bool, true, List, Option, Some, None, refl, sym, ap, subst, ◌∙◌}
 use Rattle.std.proofs.Common.{inl, inr}
-use Rattle.plan_cert.specs.declared.Segment.{Segment}
-use Rattle.early_start.specs.StartSearch.{Offers}
-use Rattle.film_frames.specs.declared.stored_films.Stored.{Stored}
-use Rattle.film_frames.specs.FramedRuns.{FramedRun, frames_before, octets_before}
-use Rattle.film_run.specs.declared.runs.Run.{Run}
-use Rattle.rtsp_fields.specs.declared.ranges.Origin.{Origin}
-use Rattle.rtsp_fields.specs.declared.ranges.Origin.TheVariants.{Now, At}
-use Rattle.film_streams.specs.declared.stream_numbers.StreamSource.{StreamSource}
+use Rattle.session.proofs.SharedTerms.{AsksHalt, Counts, counts_after, counts_for, FramedRun, frames_before, GoesOn}
+use Rattle.session.proofs.SharedTerms.{Hears, identity_of, is_answered, IsFilmAt, IsRequestFor, next_boundary}
+use Rattle.session.proofs.SharedTerms.{octets_before, Offers, OfFilm, Origin, prepared_of, Run, run_of, Segment}
+use Rattle.session.proofs.SharedTerms.{sending_of, session_text, SessionState, Setup, Stored, StreamSource}
 use Rattle.session.specs.declared.commands.Ask.{Ask}
-use Rattle.session.specs.declared.commands.Ask.TheVariants.{Reply as AskReply, Play as AskPlay, Halt as AskHalt}
-use Rattle.session.specs.declared.commands.Ask.TheVariants.{Look as AskLook, Offer as AskOffer}
 use Rattle.session.specs.declared.play_requests.PlayRequest.{PlayRequest}
-use Rattle.session.specs.declared.play_requests.PlayRequest.TheVariants.{Resumed, New}
 use Rattle.session.specs.declared.states.AfterHalt.{AfterHalt}
-use Rattle.session.specs.declared.states.AfterHalt.TheVariants.{Paused}
-use Rattle.session.specs.declared.states.Awaited.TheVariants.{Play, Halt, Look, Offer}
-use Rattle.film_streams.specs.declared.stream_numbers.Counts.{Counts}
 use Rattle.session.specs.declared.states.Play.{Play as Played}
 use Rattle.session.specs.declared.states.Prepared.{Prepared}
-use Rattle.film_streams.specs.declared.setups.Setup.{Setup}
+use Rattle.rtsp_fields.specs.declared.ranges.Origin.TheVariants.{Now, At}
+use Rattle.session.specs.declared.commands.Ask.TheVariants.{Reply as AskReply, Play as AskPlay, Halt as AskHalt}
+use Rattle.session.specs.declared.commands.Ask.TheVariants.{Look as AskLook, Offer as AskOffer}
+use Rattle.session.specs.declared.play_requests.PlayRequest.TheVariants.{Resumed, New}
+use Rattle.session.specs.declared.states.AfterHalt.TheVariants.{Paused}
+use Rattle.session.specs.declared.states.Awaited.TheVariants.{Play, Halt, Look, Offer}
 use Rattle.session.specs.declared.states.State.TheVariants.{Init, Ready, Playing}
-use Rattle.session.specs.RunRequests.{sending_of, IsRequestFor, counts_before, counts_for, run_of}
-use Rattle.film_streams.specs.Films.{IsFilmAt, OfFilm}
-use Rattle.film_streams.specs.StreamNumbers.{counts_after, identity_of}
-use Rattle.session.specs.Laws.{GoesOn}
-use Rattle.session.specs.Methods.{AsksHalt, prepared_of}
-use Rattle.pacer.specs.PacerStates.{next_boundary}
-use Rattle.session.specs.RequestSteps.{Hears, is_answered}
-use Rattle.session.specs.SessionStates.{SessionState}
+use Rattle.session.specs.RunRequests.{counts_before}
 use Rattle.session.proofs.InitialStateLemmas.{HeardMessage, heard_by, PlayInHand}
 use Rattle.session.proofs.RequestCaseAnalysis.{Answer, Replies as RepliesAlone, SetsUp as SettlesSetup, StartsPlay}
 use Rattle.session.proofs.RequestCaseAnalysis.{HaltsPlay, StopsPlay, EndsSession, TakesLook, SeeksOffer, answer_to}
 use Rattle.session.proofs.RequestCaseAnalysis.{settled_init}
-use Rattle.rtsp_replies.specs.Replies.{session_text}
 use Rattle.session.proofs.ResumedPlayLemmas.{of_film}
 use Rattle.session_laws.proofs.RtpNumberLemmas.{identity_goes_on}
 

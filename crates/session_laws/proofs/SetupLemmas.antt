@@ -1,25 +1,16 @@
 -- What a SETUP results in: it is refused, or the session is Ready with what it asks for.
 use Rattle.std.proofs.Common.{◌≡◌, ℕ, List, None, Ok, codes, sym, subst, inl, inr, ◌∙◌, Bool, true, false, refl, ap}
 use Rattle.std.proofs.Common.{true≢false}
-use Rattle.rtsp_text.specs.Requests.{IsRequest}
-use Rattle.rtsp_text.specs.declared.requests.Request.{Request}
-use Rattle.rtsp_text.proofs.MessageUniqueness.{request_once, no_fault}
+use Rattle.session.proofs.SharedTerms.{AsksForSetup, Hears, IsReadAs, IsReplied, IsSetUp, Method, method_of, name_of}
+use Rattle.session.proofs.SharedTerms.{Names, no_fault, Request, request_once, SessionState, Setup, with_reply}
 use Rattle.session.specs.declared.commands.Ask.{Ask}
-use Rattle.session.specs.declared.commands.Ask.TheVariants.{Reply}
 use Rattle.session.specs.declared.refusals.Task.{Task}
-use Rattle.film_streams.specs.declared.setups.Setup.{Setup}
+use Rattle.rtsp_text.specs.Requests.{IsRequest}
+use Rattle.session.specs.declared.commands.Ask.TheVariants.{Reply}
 use Rattle.session.specs.declared.states.State.TheVariants.{Ready}
-use Rattle.film_streams.specs.Films.{Names}
-use Rattle.session.specs.RequestSteps.{Hears}
-use Rattle.session.specs.RefusalOrder.{IsReadAs, method_of}
-use Rattle.rtsp_methods.specs.Methods.{name_of}
-use Rattle.session.specs.Methods.{IsReplied, IsSetUp}
 use Rattle.session.proofs.InitialStateLemmas.{HeardMessage, heard_by}
 use Rattle.session.proofs.RequestCaseAnalysis.{Answer, Replies, SetsUp, StartsPlay, HaltsPlay, StopsPlay, EndsSession}
 use Rattle.session.proofs.RequestCaseAnalysis.{TakesLook, SeeksOffer, TakenTask, answer_to}
-use Rattle.film_streams.specs.Setups.{AsksForSetup}
-use Rattle.session.specs.SessionStates.{SessionState, with_reply}
-use Rattle.rtsp_methods.specs.declared.methods.Method.{Method}
 use Rattle.rtsp_methods.specs.declared.methods.Method.TheVariants.{Setup as SetupMethod, Play, Pause, Teardown}
 use Rattle.rtsp_methods.specs.declared.methods.Method.TheVariants.{GetParameter}
 use Rattle.session_laws.proofs.RequestReadings.{method_once}

@@ -1,20 +1,20 @@
 -- The slots that are missed, and a play that is done.
-use Rattle.std.proofs.Common.{◌≡◌, ℕ, zero, suc, ◌+◌, ◌-◌, ◌<◌, ◌≤◌, ◌&&◌, Bool, true, false, cond, eqb, ltb, leb}
-use Rattle.std.proofs.Common.{max, sum_by, refl, ap, ◌∙◌, add-one, arith, inl, inr}
+use Rattle.std.proofs.Common.{◌≡◌, ℕ, zero, suc, ◌+◌, ◌-◌, ◌<◌, ◌≤◌, ◌&&◌, Bool, true, false, cond, eqb, ltb, leb, max}
+use Rattle.std.proofs.Common.{sum_by, refl, ap, ◌∙◌, add-one, arith, inl, inr}
 use Rattle.std.specs.List.{range_with_len}
 use Rattle.std.proofs.lemmas.Bool.{cases_lt}
 use Rattle.std.proofs.lemmas.Bool.Decides.{nat_tests}
+use Rattle.session.proofs.SharedTerms.{after_play, after_slot, awaited_answer, awaited_answer_of, HaltAnswer}
+use Rattle.session.proofs.SharedTerms.{is_between, is_sending, is_taken, sent_due, sent_reply, sent_slot, SessionState}
+use Rattle.session.proofs.SharedTerms.{Setup, stepped_in}
+use Rattle.session.specs.declared.states.Play.{Play as Played}
 use Rattle.vod_base.specs.declared.links.TheConstants.{LATEST_SLOT}
 use Rattle.wire_curve.proofs.PictureSums.{sum_by-range_more}
 use Rattle.session.specs.declared.states.Awaited.TheVariants.{Halt}
 use Rattle.session.specs.declared.states.AfterHalt.TheVariants.{Done}
-use Rattle.session.specs.declared.states.Play.{Play as Played}
-use Rattle.film_streams.specs.declared.setups.Setup.{Setup}
 use Rattle.session.specs.declared.states.State.TheVariants.{Playing}
 use Rattle.session_laws.specs.PlayLaws.{slots_missed}
-use Rattle.session.specs.SlotSteps.{after_play, finished_in, is_between, is_sending, is_taken, missed_between}
-use Rattle.session.specs.SlotSteps.{sent_due, sent_reply, sent_slot, after_slot, start_in, stepped_in}
-use Rattle.session.specs.SessionStates.{HaltAnswer, SessionState, awaited_answer, awaited_answer_of}
+use Rattle.session.specs.SlotSteps.{finished_in, missed_between, start_in}
 
 abbrev is_missed : ℕ → ℕ → ℕ → ℕ
 is_missed heard start t = cond (ltb heard t && leb start t) 1 0
@@ -99,7 +99,8 @@ past_taken heard slot past = grind (arith, nat_tests)
 above_taken : (heard slot : ℕ) → LATEST_SLOT < slot → (ltb heard slot && leb slot LATEST_SLOT) ≡ false
 above_taken heard slot above = grind (arith, nat_tests)
 
-pub later_slot : (old : SessionState) (slot : ℕ) → old.heard < slot → slot ≤ LATEST_SLOT → (after_slot old slot).heard ≡ slot
+pub later_slot : (old : SessionState) (slot : ℕ) → old.heard < slot → slot ≤ LATEST_SLOT
+    → (after_slot old slot).heard ≡ slot
 later_slot old slot later most =
     slot_heard (is_taken old slot) (is_sending old.state) old slot (later_taken old.heard slot later most)
 

@@ -1,18 +1,17 @@
 -- A session's state moves as RFC 2326 appendix A.2 has it.
 use Rattle.std.proofs.Common.{◌≡◌, ℕ, ◌⊎◌, List, refl, sym, ap, ◌∙◌, inl, inr}
+use Rattle.session.proofs.SharedTerms.{admitted_in, after_admission, after_halt, Hears, next_of, SessionState, Setup}
+use Rattle.session.proofs.SharedTerms.{state_once_halted}
 use Rattle.session.specs.declared.commands.Ask.{Ask}
-use Rattle.session.specs.declared.states.Awaited.{Awaited}
-use Rattle.session.specs.declared.states.Awaited.TheVariants.{Play}
 use Rattle.session.specs.declared.states.AfterHalt.{AfterHalt}
-use Rattle.session.specs.declared.states.AfterHalt.TheVariants.{Done}
+use Rattle.session.specs.declared.states.Awaited.{Awaited}
 use Rattle.session.specs.declared.states.Play.{Play as Played}
-use Rattle.film_streams.specs.declared.setups.Setup.{Setup}
 use Rattle.session.specs.declared.states.State.{State}
+use Rattle.session.specs.declared.states.Awaited.TheVariants.{Play}
+use Rattle.session.specs.declared.states.AfterHalt.TheVariants.{Done}
 use Rattle.session.specs.declared.states.State.TheVariants.{Ready, Playing}
-use Rattle.session.specs.RequestSteps.{Hears, after_admission, after_halt}
 use Rattle.session.specs.Laws.{InitStage, PlayingStage, ReadyStage, StaysOr, stage_of}
-use Rattle.session.specs.SlotSteps.{admitted_in, halted_in, next_of, state_once_halted}
-use Rattle.session.specs.SessionStates.{SessionState}
+use Rattle.session.specs.SlotSteps.{halted_in}
 use Rattle.session.proofs.InitialStateLemmas.{HeardMessage, heard_by}
 use Rattle.session.proofs.RequestCaseAnalysis.{Answer, SetsUp, HaltsPlay, StopsPlay, answer_to, by_answer, made_by}
 use Rattle.session.proofs.RequestCaseAnalysis.{settled_init}

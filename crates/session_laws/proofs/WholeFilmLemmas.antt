@@ -1,21 +1,16 @@
 -- A PLAY from a film's beginning, without an end, asks for the entire film.
 use Rattle.std.proofs.Common.{◌≡◌, ◌*◌, ◌≤◌, [], Some, None, length, codes, refl, subst, ◌∙◌, arith}
 use Rattle.std.proofs.Math.Nat.{mul-le-mul_left}
-use Rattle.mpeg_scan.specs.PictureRates.{picture_time}
-use Rattle.film_frames.specs.declared.stored_films.Stored.{Stored}
+use Rattle.session.proofs.SharedTerms.{IsAskedRun, IsRequestFor, IsSpan, picture_time, Run, run_of, Span, Stored}
+use Rattle.session.specs.declared.play_requests.PlayRequest.{PlayRequest}
 use Rattle.film_run.proofs.RemainingRunLemmas.{run-same}
-use Rattle.film_run.specs.declared.runs.Run.{Run}
 use Rattle.film_run.specs.Seeks.{IsRequestedRange as IsRunAsked}
 use Rattle.rtsp_fields.proofs.DescriptionLines.{zero_time}
 use Rattle.rtsp_fields.proofs.RangeTexts.{span_read}
 use Rattle.rtsp_fields.proofs.SeparatedTexts.{other_than}
 use Rattle.rtsp_fields.specs.declared.ranges.Origin.TheVariants.{At}
-use Rattle.rtsp_fields.specs.declared.ranges.Span.{Span}
-use Rattle.rtsp_fields.specs.Ranges.{IsSpan}
 use Rattle.rtsp_fields.proofs.FieldUniqueness.{span_once}
-use Rattle.session.specs.declared.play_requests.PlayRequest.{PlayRequest}
 use Rattle.session.specs.declared.play_requests.PlayRequest.TheVariants.{New, Resumed}
-use Rattle.session.specs.RunRequests.{IsAskedRun, IsRequestFor, run_of}
 use Rattle.session_laws.specs.PlayLaws.{unsent_run}
 
 -- the run of all units of a film, of which nothing was sent

@@ -249,8 +249,8 @@ pub record IsUnknownBody (body : List ℕ) : Type 0 where
 
 -- a method that is asked of the session's film
 abbrev pub IsFilmMethod : List ℕ → Type 0
-IsFilmMethod method = (method ≡ codes "SETUP") ⊎ ((method ≡ codes "PLAY") ⊎ ((method ≡ codes "PAUSE")
-    ⊎ ((method ≡ codes "TEARDOWN") ⊎ (method ≡ codes "GET_PARAMETER"))))
+IsFilmMethod method = (method ≡ codes "SETUP") ⊎ ((method ≡ codes "PLAY")
+    ⊎ ((method ≡ codes "PAUSE") ⊎ ((method ≡ codes "TEARDOWN") ⊎ (method ≡ codes "GET_PARAMETER"))))
 
 -- a URL names no film of the server but others than this one
 abbrev pub NamesOtherFilm : List Stored → List ℕ → ℕ → Type 0

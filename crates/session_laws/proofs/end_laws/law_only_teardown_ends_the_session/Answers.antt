@@ -6,5 +6,5 @@ returns c = record {
   ends = teardown_ends;
   taken = teardown_taken;
   alone = λ films settings words happenings now are torn.
-    torn_by_teardown (record { films = films; settings = settings; words = words }) happenings now are torn;
+      torn_by_teardown (record { films = films; settings = settings; words = words }) happenings now are torn;
 }

@@ -5,5 +5,5 @@ pub returns : goal.returns
 returns c = record {
   run = identity_goes_on;
   dropped = λ old stored setup paused planned is.
-    dropped_goes_on is.planned_is is.wanted_is;
+      dropped_goes_on is.planned_is is.wanted_is;
 }

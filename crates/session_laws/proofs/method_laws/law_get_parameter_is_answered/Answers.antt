@@ -10,14 +10,14 @@ returns c = record {
   unknown = λ old new message ask request hears. parameter_unknown (heard_by hears) request;
   look = λ old new message ask request hears. parameter_look (heard_by hears) request;
   no_session = λ old new message ask request hears is body init.
-    offer_no_session (heard_by hears) request (record { is = is; body = body }) init;
+      offer_no_session (heard_by hears) request (record { is = is; body = body }) init;
   playing = λ old new message ask request setup play hears is body playing.
-    offer_playing (heard_by hears) request (record { is = is; body = body })
-    (record { setup = setup; play = play; playing = playing });
+      offer_playing (heard_by hears) request (record { is = is; body = body })
+      (record { setup = setup; play = play; playing = playing });
   no_wait = λ old new message ask request setup paused hears is body ready none.
-    offer_no_wait (heard_by hears) (record { request = request; setup = setup; paused = paused; ready = ready })
-    (record { is = is; body = body }) none;
+      offer_no_wait (heard_by hears) (record { request = request; setup = setup; paused = paused; ready = ready })
+      (record { is = is; body = body }) none;
   offer = λ old new message ask request setup paused wait hears is body ready waits.
-    offer_ready (heard_by hears) (record { request = request; setup = setup; paused = paused; ready = ready }) wait
-    (record { is = is; body = body }) waits;
+      offer_ready (heard_by hears) (record { request = request; setup = setup; paused = paused; ready = ready }) wait
+      (record { is = is; body = body }) waits;
 }

@@ -6,6 +6,6 @@ pub returns : goal.returns
 returns c = record {
   done = play_done;
   whole = λ old setup play sound rest linked playing.
-    sound_keep old (record { setup = setup; play = play; playing = playing }) sound rest linked;
+      sound_keep old (record { setup = setup; play = play; playing = playing }) sound rest linked;
   going = play_goes;
 }

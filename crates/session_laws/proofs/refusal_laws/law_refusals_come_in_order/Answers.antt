@@ -9,5 +9,5 @@ returns c = record {
   session = λ old new message ask request hears is. session_refused (request_heard request hears is);
   film = λ old new message ask request hears is. film_refused (request_heard request hears is);
   state = λ old new message ask request method hears is.
-    state_refused (request_heard request hears is) method;
+      state_refused (request_heard request hears is) method;
 }
