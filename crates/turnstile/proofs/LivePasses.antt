@@ -40,7 +40,8 @@ idle_free st is t e = subst IsHolding (sym e ∙ is) tt
 pub waits_free : (st : PassStage) (u : ℕ) → st ≡ Waits u → Free st
 waits_free st u is t e = subst IsHolding (sym e ∙ is) tt
 
-pub ticket_low : (served drawn t : ℕ) (st : PassStage) → InTurn served drawn st → IsTicket st t → (served ≤ t) × (t < drawn)
+pub ticket_low : (served drawn t : ℕ) (st : PassStage) → InTurn served drawn st → IsTicket st t
+    → (served ≤ t) × (t < drawn)
 ticket_low served drawn t Idle turn is = absurd is
 ticket_low served drawn t (Waits u) turn is = (omega (arith, turn.0, is), omega (arith, turn.1, is))
 ticket_low served drawn t (Holds u) turn is = (omega (arith, turn.0, is), omega (arith, turn.1, is))
