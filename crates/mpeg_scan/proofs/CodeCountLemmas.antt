@@ -147,7 +147,8 @@ is_nothing value = false
 pub picture-no-group : (value : ℕ) → eqb value 0 ≡ true → value ≡ 0xb8 → ⊥
 picture-no-group value e other = omega (arith, other, eqb-true value 0 e)
 
-abbrev pictures-until : (ends : ℕ → Bool) → ((value : ℕ) → is_picture value ≡ true → ends value ≡ false) → Tests IsPicture
+abbrev pictures-until : (ends : ℕ → Bool) → ((value : ℕ) → is_picture value ≡ true → ends value ≡ false)
+    → Tests IsPicture
 pictures-until ends apart = record {
   counts = is_picture;
   ends = ends;

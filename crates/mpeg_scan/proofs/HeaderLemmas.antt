@@ -384,7 +384,14 @@ rate-known {bytes} {past = c ∷ past} {at} film accepted judged =
     let has = first_in-has c past in
     let k = film.knows in
     let are : AreJudged film.read c past =
-    record { end = at; stop = film.stop; accepted = accepted; judged = judged; far = film.far; headers = film.headers } in
+    record {
+      end = at;
+      stop = film.stop;
+      accepted = accepted;
+      judged = judged;
+      far = film.far;
+      headers = film.headers;
+    } in
     let header = first_in-header are in
     its_rate (record {
       first = first.place;

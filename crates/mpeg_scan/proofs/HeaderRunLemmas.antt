@@ -1,5 +1,6 @@
 -- Bytes that are added to a header one after another.
-use Rattle.std.proofs.Common.{◌≡◌, ℕ, true, not, nat_lt, ◌+◌, ◌<◌, ◌≤◌, List, [], ◌∷◌, get_or, length, refl, sym, ap, ◌∙◌, arith}
+use Rattle.std.proofs.Common.{◌≡◌, ℕ, true, not, nat_lt, ◌+◌, ◌<◌, ◌≤◌, List, [], ◌∷◌, get_or, length, refl, sym, ap}
+use Rattle.std.proofs.Common.{◌∙◌, arith}
 use Rattle.std.proofs.lemmas.Bool.{ltb-false, not-true}
 use Rattle.mpeg_scan.specs.HeaderBytes.{header_with, header_with_all}
 use Rattle.mpeg_scan.proofs.CodeLemmas.{noted-full}

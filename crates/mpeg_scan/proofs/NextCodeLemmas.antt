@@ -96,7 +96,8 @@ code-begun t place value e other =
     let none = (some-cond-none test NoSequence None second.1).0 in
     elim (cases_Bool t.begun) [
       | inl begun ↦ begun
-      | inr other_begun ↦ absurd (true≢false (sym (ap (λ b. not b && not (eqb value 0xb3)) other_begun ∙ ap not other) ∙ none))
+      | inr other_begun ↦ absurd
+          (true≢false (sym (ap (λ b. not b && not (eqb value 0xb3)) other_begun ∙ ap not other) ∙ none))
     ]
 
 group-by : (b z : Bool) (pictures group : ℕ) → group ≤ pictures

@@ -44,7 +44,8 @@ takes-head : (unit place : ℕ) → unit < place → place - unit ≤ MAX_UNIT_H
 takes-head unit place below short =
     ap (λ b. parts_after (cond b (Some (within unit place place 0)) None) [])
     (and_from (eqb unit unit) (ltb unit place && leb (place - unit) MAX_UNIT_HEAD_BYTES) (eq-eqb unit unit refl)
-    (and_from (ltb unit place) (leb (place - unit) MAX_UNIT_HEAD_BYTES) (lt-ltb unit place below) (le-leb (place - unit) MAX_UNIT_HEAD_BYTES short)))
+    (and_from (ltb unit place) (leb (place - unit) MAX_UNIT_HEAD_BYTES)
+        (lt-ltb unit place below) (le-leb (place - unit) MAX_UNIT_HEAD_BYTES short)))
 
 takes-slice : {place : ℕ} (unit head_end slice m : ℕ) (calls : List Call) → slice + 4 ≤ place
     → parts_after (Some (within unit head_end slice m)) (slice_call slice place ∷ calls)
@@ -193,10 +194,12 @@ count-cases : (n : ℕ) → NoneOrMore n
 count-cases zero = inl refl
 count-cases (suc m) = inr (m, omega arith)
 
-head-short : (t : Tally) (place : ℕ) (o : Option Header) → head_fault t place o ≡ None → place - t.unit ≤ MAX_UNIT_HEAD_BYTES
+head-short : (t : Tally) (place : ℕ) (o : Option Header) → head_fault t place o ≡ None
+    → place - t.unit ≤ MAX_UNIT_HEAD_BYTES
 head-short t place None e = absurd (cc)
 head-short t place (Some p) e =
-    ltb-false MAX_UNIT_HEAD_BYTES (place - t.unit) (some-cond-none (ltb MAX_UNIT_HEAD_BYTES (place - t.unit)) (HeadTooLong t.unit) None e).0
+    ltb-false MAX_UNIT_HEAD_BYTES (place - t.unit)
+    (some-cond-none (ltb MAX_UNIT_HEAD_BYTES (place - t.unit)) (HeadTooLong t.unit) None e).0
 
 pub first_slice-head : (t : Tally) (place value : ℕ) → first_slice_fault t place value ≡ None
     → is_slice value ≡ true → t.slices ≡ 0 → place - t.unit ≤ MAX_UNIT_HEAD_BYTES
@@ -315,8 +318,10 @@ whole-tiles [] n accepted ended spaced after = absurd (omega (arith, ended-none 
 whole-tiles (c ∷ past) n accepted ended spaced after =
     let some = ended-none (tally_of (c ∷ past))
     (otherwise-second (latest_fault (c ∷ past) n) (last_fault (tally_of (c ∷ past))) ended) in
-    after-append next_part (Some (between (first_of (c ∷ past)))) (calls_of (c ∷ past)) (unit_end (tally_of (c ∷ past)) n)
-    ∙ ap (λ (o : Option PartStart). parts_after o (unit_end (tally_of (c ∷ past)) n)) (calls-parts c past accepted spaced)
+    after-append next_part (Some (between (first_of (c ∷ past))))
+    (calls_of (c ∷ past)) (unit_end (tally_of (c ∷ past)) n)
+    ∙ ap (λ (o : Option PartStart). parts_after o (unit_end (tally_of (c ∷ past)) n))
+    (calls-parts c past accepted spaced)
     ∙ end-step (c ∷ past) n some (slice-before (c ∷ past) n spaced after some)
 
 -- an accepted film is its units, one after another

@@ -248,7 +248,8 @@ pub record NotedCode : Type 0 where
   pub whole : is_whole before.prefix ≡ true
   pub is : noted ≡ scan_with_byte before byte
 
-abbrev pub code-noted : {n : Progress} (s : Progress) (x : ℕ) → true ≡ is_whole s.prefix → n ≡ scan_with_byte s x → NotedCode
+abbrev pub code-noted : {n : Progress} (s : Progress) (x : ℕ) → true ≡ is_whole s.prefix → n ≡ scan_with_byte s x
+    → NotedCode
 code-noted {n} s x whole is = record { before = s; noted = n; byte = x; whole = sym whole; is = is }
 
 abbrev pub judged_at : NotedCode → Progress → Option FilmFault
@@ -273,7 +274,8 @@ pub taken-calls : {r : List ℕ} (c : NotedCode) → HasReadBytes c.before r →
 taken-calls {r} c kept calls =
     let place = c.before.fed - 3 in
     append_assoc calls (calls_of (codes_of r)) (calls_at (tally_with c.noted.latest c.noted.tally) place c.byte)
-    ∙ ap (λ (v : Progress). calls ++ (calls_of (codes_of r) ++ calls_at (tally_with v.latest v.tally) place c.byte)) c.is
+    ∙ ap (λ (v : Progress). calls ++ (calls_of (codes_of r) ++ calls_at (tally_with v.latest v.tally) place c.byte))
+    c.is
     ∙ ap (λ (l : List Call). calls ++ l) (sym (calls-at_code c.before r c.byte kept (whole-read kept c.whole)))
 
 pub taken-none : {s : Progress} {r : List ℕ} (x : ℕ) → is_whole s.prefix ≡ false → HasReadBytes s r

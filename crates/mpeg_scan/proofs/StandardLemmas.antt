@@ -41,7 +41,14 @@ code-header : {r : List ℕ} {c its : Code} {past : List Code} → AreJudged r c
     → Member its (c ∷ past) → CodeHeader r its
 code-header {r} {c} {past} are (inl same) =
     subst (λ (v : Code). CodeHeader r v) same
-    (record { stop = are.stop; end = are.end; rate = first_rate past; is = are.headers.0; judged = are.judged; far = are.far })
+    (record {
+      stop = are.stop;
+      end = are.end;
+      rate = first_rate past;
+      is = are.headers.0;
+      judged = are.judged;
+      far = are.far;
+    })
 code-header {past = []} are (inr m) = absurd m
 code-header {past = d ∷ past} are (inr m) = code-header {c = d} {past = past} (older-are_judged are) m
 

@@ -270,7 +270,10 @@ part-laid (slice_call a b ∷ calls) {part = within from head_end at n} {k} {to}
     let its : SliceFits (begun from head_end at n) a b =
     record { here = eqb-true a at slice.0; least = leb-true (a + 4) b slice.1 } in
     let next : SoFar (within from head_end b (n + 1)) (record k { slices = k.slices + 1 }) (past ++ a ∷ []) =
-    record { slices = omega (arith, so_far.slices, length-append past (a ∷ [])); stands = slice-inside its so_far.stands } in
+    record {
+      slices = omega (arith, so_far.slices, length-append past (a ∷ []));
+      stands = slice-inside its so_far.stands;
+    } in
     subst (λ (l : List ℕ). AreLaid to l (units_in calls)) (append_assoc past (a ∷ []) (slices_in calls))
     (part-laid calls fits.1 counts next)
 part-laid (unit_call unit ∷ calls) {part = within from head_end at n} {k} {to} {past} parts counts so_far =

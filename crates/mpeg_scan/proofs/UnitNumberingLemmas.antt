@@ -18,8 +18,8 @@ use Rattle.mpeg_scan.specs.FilmFaults.{first_fault, end_fault, last_fault, lates
 use Rattle.mpeg_scan.specs.Calls.{Call, head_call, slice_call, unit_call, unit_at, unit_end}
 use Rattle.mpeg_scan.specs.Calls.{calls_at, calls_of, all_calls}
 use Rattle.mpeg_scan.specs.UnitNumbering.{Count, group_of, next_count, counts_after, no_count, AreNumbered}
-use Rattle.mpeg_scan.proofs.PartTilingLemmas.{CodeEnds, after-append, raw_calls, ends_at, slice-apart, first_slice-accepted}
-use Rattle.mpeg_scan.proofs.PartTilingLemmas.{first-is, calls-nil, ended-none}
+use Rattle.mpeg_scan.proofs.PartTilingLemmas.{CodeEnds, after-append, raw_calls, ends_at, slice-apart}
+use Rattle.mpeg_scan.proofs.PartTilingLemmas.{first_slice-accepted, first-is, calls-nil, ended-none}
 use Rattle.mpeg_scan.proofs.ScanStepLemmas.{accepted-older, code-accepted, otherwise-first, otherwise-second}
 use Rattle.mpeg_scan.proofs.ScanStepLemmas.{calls-cons, accepted-whole}
 
@@ -383,7 +383,8 @@ calls-counted c (d ∷ past) accepted =
     let more = code-count c d past before.count (code-accepted c (d ∷ past) accepted) before.agrees in record {
       count = more.count;
       count_is = ap (counts_after (Some no_count)) (calls-cons c (d ∷ past))
-          ∙ after-append next_count (Some no_count) (calls_of (d ∷ past)) (calls_at (tally_of (d ∷ past)) c.place c.value)
+          ∙ after-append next_count (Some no_count) (calls_of (d ∷ past))
+          (calls_at (tally_of (d ∷ past)) c.place c.value)
           ∙ ap (λ (o : Option Count). counts_after o (calls_at (tally_of (d ∷ past)) c.place c.value)) before.count_is
           ∙ more.count_is;
       agrees = more.agrees;

@@ -1,4 +1,4 @@
-use Rattle.std.proofs.Common.{◌≡◌, [], ℕ, List, subst, Some, Err, sym, ap, ◌∙◌, arith}
+use Rattle.std.proofs.Common.{◌≡◌, [], ℕ, List, subst, Some, Err, sym, ap, ◌∙◌, arith, rules}
 use Rattle.std.proofs.lemmas.Result.{err_from_is_err_and}
 use Rattle.mpeg_scan.specs.declared.faults.FilmFault.TheVariants.{TooLong}
 use Rattle.mpeg_scan.specs.declared.faults.ScanRefused.TheVariants.{Fault}
@@ -56,17 +56,13 @@ returns-in_err-ending-clause-fault c =
     (read_after [] c.args.bytes.items)
     (read-all (goal.at.returns-in_err-ending-clause-fault c).In_ok-feed)
 
-pub returns-clause-tiled : goal.returns-clause-tiled
-returns-clause-tiled c =
-    c.in_ok-ending.ensures.tiled (read_after [] c.args.bytes.items)
-    (read-all (goal.at.returns-clause-tiled c).In_ok-feed)
-
-pub returns-clause-numbered : goal.returns-clause-numbered
-returns-clause-numbered c =
-    c.in_ok-ending.ensures.numbered (read_after [] c.args.bytes.items)
-    (read-all (goal.at.returns-clause-numbered c).In_ok-feed)
-
-pub returns-clause-grammatical : goal.returns-clause-grammatical
-returns-clause-grammatical c =
-    c.in_ok-ending.ensures.grammatical (read_after [] c.args.bytes.items)
-    (read-all (goal.at.returns-clause-grammatical c).In_ok-feed)
+pub returns : goal.returns
+returns c =
+    let all = read_after [] c.args.bytes.items in
+    let read = read-all (goal.at.returns c).In_ok-feed in record {
+      film = search rules;
+      grammatical = c.in_ok-ending.ensures.grammatical all read;
+      numbered = c.in_ok-ending.ensures.numbered all read;
+      tiled = c.in_ok-ending.ensures.tiled all read;
+      fault = search rules;
+    }

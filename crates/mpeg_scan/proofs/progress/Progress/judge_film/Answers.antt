@@ -14,34 +14,18 @@ pub returns-then-self-gt-MAX_FILM_BYTES-clause-fault : goal.returns-then-self-gt
 returns-then-self-gt-MAX_FILM_BYTES-clause-fault c =
     λ r kept. refusal-long c.args.self.now r c.if-self-gt-MAX_FILM_BYTES.true kept
 
-pub returns-else-self-gt-MAX_FILM_BYTES-clause-accepted : goal.returns-else-self-gt-MAX_FILM_BYTES-clause-accepted
-returns-else-self-gt-MAX_FILM_BYTES-clause-accepted c =
-    MatchResult-weaker c.judge_end.result c.judge_end.ensures
-    (λ t h r kept. (
-      refusal-is c.args.self.now r (omega arith) c.if-self-gt-MAX_FILM_BYTES.false kept ∙ h.0,
-      h.1 ∙ tally-ended c.args.self.now r kept,
-    ))
-    (λ f h. tt)
-
-pub returns-else-self-gt-MAX_FILM_BYTES-clause-fault : goal.returns-else-self-gt-MAX_FILM_BYTES-clause-fault
-returns-else-self-gt-MAX_FILM_BYTES-clause-fault c =
-    MatchResult-weaker c.judge_end.result c.judge_end.ensures (λ t h. tt)
-    (λ f h r kept. refusal-is c.args.self.now r (omega arith) c.if-self-gt-MAX_FILM_BYTES.false kept ∙ h)
-
-pub returns-else-self-gt-MAX_FILM_BYTES-clause-tally : goal.returns-else-self-gt-MAX_FILM_BYTES-clause-tally
-returns-else-self-gt-MAX_FILM_BYTES-clause-tally c =
-    MatchResult-weaker c.judge_end.result c.judge_end.ensures (λ t h. h.1) (λ f h. tt)
-
-pub returns-else-self-gt-MAX_FILM_BYTES-clause-sliced : goal.returns-else-self-gt-MAX_FILM_BYTES-clause-sliced
-returns-else-self-gt-MAX_FILM_BYTES-clause-sliced c =
-    MatchResult-weaker c.judge_end.result c.judge_end.ensures
-    (λ t h. end_judgement-sliced c.args.self.now.latest c.args.self.now.tally t c.args.self.now.fed h.0 h.1) (λ f h. tt)
-
-pub returns-else-self-gt-MAX_FILM_BYTES-clause-short : goal.returns-else-self-gt-MAX_FILM_BYTES-clause-short
-returns-else-self-gt-MAX_FILM_BYTES-clause-short c =
-    MatchResult-weaker c.judge_end.result c.judge_end.ensures (λ t h. c.if-self-gt-MAX_FILM_BYTES.false) (λ f h. tt)
-
-pub returns-else-self-gt-MAX_FILM_BYTES-clause-rated : goal.returns-else-self-gt-MAX_FILM_BYTES-clause-rated
-returns-else-self-gt-MAX_FILM_BYTES-clause-rated c =
-    MatchResult-weaker c.judge_end.result c.judge_end.ensures
-    (λ t h. end-rated c.args.self.now t h.0 h.1 c.requires) (λ f h. tt)
+pub returns-else-self-gt-MAX_FILM_BYTES : goal.returns-else-self-gt-MAX_FILM_BYTES
+returns-else-self-gt-MAX_FILM_BYTES c =
+    let film = c.args.self.now in
+    let judged = c.judge_end.ensures in
+    let short = c.if-self-gt-MAX_FILM_BYTES.false in record {
+      tally = MatchResult-weaker c.judge_end.result judged (λ t h. h.1) (λ f h. tt);
+      sliced = MatchResult-weaker c.judge_end.result judged
+          (λ t h. end_judgement-sliced film.latest film.tally t film.fed h.0 h.1) (λ f h. tt);
+      rated = MatchResult-weaker c.judge_end.result judged (λ t h. end-rated film t h.0 h.1 c.requires) (λ f h. tt);
+      short = MatchResult-weaker c.judge_end.result judged (λ t h. short) (λ f h. tt);
+      accepted = MatchResult-weaker c.judge_end.result judged
+          (λ t h r kept. (refusal-is film r (omega arith) short kept ∙ h.0, h.1 ∙ tally-ended film r kept)) (λ f h. tt);
+      fault = MatchResult-weaker c.judge_end.result judged (λ t h. tt)
+          (λ f h r kept. refusal-is film r (omega arith) short kept ∙ h);
+    }

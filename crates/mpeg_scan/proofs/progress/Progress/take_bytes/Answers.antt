@@ -16,7 +16,8 @@ read-on : (g : _) (c : After-skip-at g) (r : List ℕ)
     → HasReadBytes c.loop-at.self (read_after r (take c.loop-at.at c.args.chunk.now))
     → HasReadBytes c.skip-at.new.self (read_after r (take (c.loop-at.at + c.skip-at.result) c.args.chunk.now))
 read-on g c r kept =
-    subst (λ (q : List ℕ). HasReadBytes c.skip-at.new.self q) (read-run r c.args.chunk.now c.loop-at.at c.skip-at.result)
+    subst (λ (q : List ℕ). HasReadBytes c.skip-at.new.self q)
+    (read-run r c.args.chunk.now c.loop-at.at c.skip-at.result)
     (skipped-kept c.skip-at.ensures.skipped kept)
 
 heard-on : (g : _) (c : After-skip-at g) (r : List ℕ) (calls : List Call)
