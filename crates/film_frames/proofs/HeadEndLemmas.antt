@@ -45,7 +45,8 @@ one-piece pieces k place number inside there =
       ]
     ]
 
-head-here : (pieces : List (List ℕ)) (k : ℕ) {place : ℕ} → (begin_of pieces k < place) × (place < begin_of pieces (k + 1))
+head-here : (pieces : List (List ℕ)) (k : ℕ) {place : ℕ}
+    → (begin_of pieces k < place) × (place < begin_of pieces (k + 1))
     → IsHeadEnd pieces place → HasHeads (get_or pieces k []) × (place ≡ begin_of pieces k + FRAME_HEAD_BYTES)
 head-here pieces k {place} inside is =
     let same = one-piece pieces k place is.number inside (
@@ -82,7 +83,8 @@ pub report-split : {pieces : List (List ℕ)} {at k : ℕ} (head payload : ℕ) 
     → (HasHeads (get_or pieces k []) → ⊥) → payload ≡ 0 → IsSplit pieces at head payload
 report-split {pieces} {k = k} head payload part none is = record {
   ends = λ some more. absurd (omega (arith, more, is));
-  only = λ place end past before. absurd (none (head-here pieces k (omega (arith, part.begins, past), omega (arith, part.ends, before)) end).0);
+  only = λ place end past before. absurd
+      (none (head-here pieces k (omega (arith, part.begins, past), omega (arith, part.ends, before)) end).0);
 }
 
 -- zero bytes have no heads

@@ -103,7 +103,9 @@ table-push {units} {pieces} {piece} {row} {old} {new} {end} is its places rows r
     let place : get_or old.places.items (length old.rows.items) 0 ≡ get_or old.places.items (length pieces) 0 =
     ap (λ n. get_or old.places.items n 0) last in
     let wires : AreSums wire_of pieces old.places.items = record { count = is.places_count; each = is.place } in
-    let w : AreSums wire_of (pieces ++ piece ∷ []) (old.places.items ++ end ∷ []) = subst (λ n. AreSums wire_of (pieces ++ piece ∷ []) (old.places.items ++ n ∷ [])) (omega (arith, end_is, place))
+    let w : AreSums wire_of (pieces ++ piece ∷ []) (old.places.items ++ end ∷ []) =
+    subst (λ n. AreSums wire_of (pieces ++ piece ∷ []) (old.places.items ++ n ∷ []))
+    (omega (arith, end_is, place))
     (sums-push piece wires) in
     let P : List ℕ → Type 0 = λ l. AreSums wire_of (pieces ++ piece ∷ []) l in
     let R : List Row → Type 0 = λ l. AreRows units (pieces ++ piece ∷ []) l in

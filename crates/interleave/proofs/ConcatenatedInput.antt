@@ -1,6 +1,6 @@
 -- The first element of bytes that are put together from their parts.
-use Rattle.std.proofs.Common.{◌≡◌, ◌≢◌, ℕ, ◌+◌, ◌-◌, ◌*◌, ◌/◌, ◌%◌, ◌^◌, ◌<◌, ◌∷◌, ◌++◌, List, Ok, length, get_or, All, refl}
-use Rattle.std.proofs.Common.{ap, ◌∙◌, arith, inl, inr, ne_eqb, true, false}
+use Rattle.std.proofs.Common.{◌≡◌, ◌≢◌, ℕ, ◌+◌, ◌-◌, ◌*◌, ◌/◌, ◌%◌, ◌^◌, ◌<◌, ◌∷◌, ◌++◌, List, Ok, length, get_or, All}
+use Rattle.std.proofs.Common.{refl, ap, ◌∙◌, arith, inl, inr, ne_eqb, true, false}
 use Rattle.std.proofs.lemmas.List.{length-append, get_or_append_left, get_or-append_right}
 use Rattle.interleave.specs.declared.elements.TheConstants.{BLOCK_START}
 use Rattle.interleave.specs.Heads.{is_line_end}

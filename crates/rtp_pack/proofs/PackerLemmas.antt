@@ -73,7 +73,8 @@ put-slice {unit} {starts} {old} {new} in_order ends =
     record {
       in_order = subst (λ i. AreInOrder new.filling.at (drop i starts) unit.to) (sym ends.at_index)
           (subst (λ at. AreInOrder at (drop (old.index + 1) starts) unit.to) there here.after);
-      packets = ap (λ (o : List Packet). o ++ packets_from unit new.filling (lengths_to unit.to (drop new.index starts)))
+      packets = ap (λ (o : List Packet). o ++ packets_from unit new.filling
+          (lengths_to unit.to (drop new.index starts)))
           ends.more
           ∙ ap (λ i. (old.out ++ slice_packets unit f n)
           ++ packets_from unit new.filling (lengths_to unit.to (drop i starts))) ends.at_index

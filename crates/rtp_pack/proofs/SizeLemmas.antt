@@ -242,7 +242,8 @@ size-from {g} (n ∷ slices) m cuts stands cutting = elim cutting [
       omega (arith, rest)
       )
   | inr x ↦ (
-      let rest = next (starting n false is x.0) (λ m' g' rest stands' cut. size-from slices m' rest stands' cut) x.1.1.1 in
+      let rest = next (starting n false is x.0) (λ m' g' rest stands' cut. size-from slices m' rest stands' cut)
+      x.1.1.1 in
       let first : cuts_size g.from cuts ≡ FRAME_HEAD_BYTES + (g.at - g.from) + cuts_size g.at x.1.0 =
       ap (λ (l : List ℕ). cuts_size g.from l) x.1.1.0 in
       omega (arith, rest, first, is.from, is.at, stands.order)
@@ -256,7 +257,8 @@ size-from {g} (n ∷ slices) m cuts stands cutting = elim cutting [
 
     -- the measure and the cuts of such a slice: the frames of its full portions, then the rest
     next : {cuts : List ℕ} (starts : StartsAt m n is.base)
-        → ((m' : Measure) (g' : OpenPacket) (rest : List ℕ) → StandsAt m' g' → Cuts g' slices rest → Rest m' g' slices rest)
+        → ((m' : Measure) (g' : OpenPacket) (rest : List ℕ) → StandsAt m' g'
+        → Cuts g' slices rest → Rest m' g' slices rest)
         → Fills (λ last rest. Cuts (filling_after g n last) slices rest) starts.place (g.at + n) cuts
         → cuts_size starts.place cuts + FRAME_HEAD_BYTES * (m.portions + cond starts.goes 0 1) + starts.start
         ≡ frames_of (with_slices (with_slice m n) slices)
@@ -274,7 +276,12 @@ size-from {g} (n ∷ slices) m cuts stands cutting = elim cutting [
         ∙ ap (λ s. cond goes 0 1 + full_before s (f.at + n)) all ∙ ap (λ k. cond goes 0 1 + k) (sym full) in
         let rest = more (with_slice m n) (filling_after g n (place + MAX_PAYLOAD_BYTES * fills.full)) fills.rest
         (record {
-          moved = record { base = is.base; from = omega (arith, at_place, last); at = omega (arith, is.at); holds = refl };
+          moved = record {
+            base = is.base;
+            from = omega (arith, at_place, last);
+            at = omega (arith, is.at);
+            holds = refl;
+          };
           order = omega (arith, last, fills.before, is.at, at_place);
         }) fills.goes_on in
         let first : cuts_size place cuts ≡ MAX_FRAME_BYTES * fills.full

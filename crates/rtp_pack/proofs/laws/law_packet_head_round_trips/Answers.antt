@@ -14,7 +14,8 @@ with_marker head marker = record {
 
 pub returns : goal.returns
 returns c = λ head rest s t r v.
-    elim head.marker as (λ marker. head_of (head_bytes (with_marker head marker) ++ rest) ≡ Ok (with_marker head marker)) [
+    elim head.marker as (λ marker. head_of (head_bytes (with_marker head marker) ++ rest)
+    ≡ Ok (with_marker head marker)) [
       | true ↦ search rules
       | false ↦ search rules
     ]

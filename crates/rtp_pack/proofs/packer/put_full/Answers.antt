@@ -16,7 +16,8 @@ loop-portion-preserved c =
           (c.full_before-portion-end.result - (c.loop-portion._portion + 1)))
           (c.in_ok-put.ensures ∙ ap (λ (p : Packet). c.loop-portion.packets.items ++ p ∷ []) c.packet.ensures)
           ∙ append_assoc c.loop-portion.packets.items _ _
-          ∙ ap (λ n. c.loop-portion.packets.items ++ full_packets c.args.unit.now c.loop-portion.begin c.loop-portion.last n)
+          ∙ ap (λ n. c.loop-portion.packets.items ++ full_packets c.args.unit.now c.loop-portion.begin
+              c.loop-portion.last n)
           left
           ∙ c.loop-portion.invariant.packets;
     }

@@ -33,41 +33,34 @@ overflow_add-place-2 c =
     let total = total-from has c.first_piece-first.ensures in
     omega (arith, c.place.ensures, c.min.ensures, c.total.ensures, total)
 
-pub ends-requires-clause-order : goal.ends-requires-clause-order
-ends-requires-clause-order c =
-    let has = is-run-of c.self.inside c.args.self.now c.self.view_is c.self.invariant in
-    omega (arith, c.first_piece-first.ensures, c.first_piece-end.ensures, has.count)
-
-pub ends-requires-clause-within : goal.ends-requires-clause-within
-ends-requires-clause-within c =
-    let has = is-run-of c.self.inside c.args.self.now c.self.view_is c.self.invariant in
-    omega (arith, c.first_piece-end.ensures, has.within)
+pub ends-requires : goal.ends-requires
+ends-requires c =
+    let has = is-run-of c.self.inside c.args.self.now c.self.view_is c.self.invariant in record {
+      order = omega (arith, c.first_piece-first.ensures, c.first_piece-end.ensures, has.count);
+      within = omega (arith, c.first_piece-end.ensures, has.within);
+    }
 
 pub ends_below-requires : goal.ends_below-requires
 ends_below-requires c =
     let at = (goal.at.ends_below-requires c).After-ends in
     ends-rise c.place.result (run_pieces c.args.self.now) c.ends.result.now (ends-are at)
 
-pub returns-clause-count_ended : goal.returns-clause-count_ended
-returns-clause-count_ended c =
+pub returns : goal.returns
+returns c =
+    let run = c.args.self.now in
+    let has = is-run-of c.self.inside run c.self.view_is c.self.invariant in
     let e : PieceEnds = record {
       base = c.place.result;
-      pieces = run_pieces c.args.self.now;
+      pieces = run_pieces run;
       ends = c.ends.result.now;
-      are = ends-are (goal.at.returns-clause-count_ended c).After-ends;
+      are = ends-are (goal.at.returns c).After-ends;
     } in
-    have-count_ended e {upto = c.min.result} (record {
+    let ended = have-count_ended e {upto = c.min.result} (record {
       count = c.ends_below.ensures.count;
       below = λ j h. omega (arith, c.ends_below.ensures.below j h);
       from = λ h. omega (arith, c.ends_below.ensures.from c.ends_below.result (omega arith) h);
-    }) (omega (arith, c.min.ensures), λ cut. omega (arith, c.min.ensures, c.total.ensures, cut))
-
-pub returns-clause-few : goal.returns-clause-few
-returns-clause-few c =
-    let has = is-run-of c.self.inside c.args.self.now c.self.view_is c.self.invariant in
-    omega (arith, c.ends_below.ensures.count, c.ends.ensures.count, c.first_piece-end.ensures, has.within, has.short)
-
-pub returns-clause-among : goal.returns-clause-among
-returns-clause-among c =
-    let run = c.args.self.now in
-    omega (arith, (returns-clause-count_ended c).among, blocks_from-count run 0 0 (pieces_in run))
+    }) (omega (arith, c.min.ensures), λ cut. omega (arith, c.min.ensures, c.total.ensures, cut)) in record {
+      count_ended = ended;
+      among = omega (arith, ended.among, blocks_from-count run 0 0 (pieces_in run));
+      few = omega (arith, c.ends_below.ensures.count, c.ends.ensures.count, c.first_piece-end.ensures);
+    }

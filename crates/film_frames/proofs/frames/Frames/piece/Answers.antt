@@ -1,4 +1,4 @@
-use Rattle.std.proofs.Common.{arith, sym, ◌∙◌}
+use Rattle.std.proofs.Common.{◌≡◌, Some, arith, slice_get, sym, ◌∙◌}
 use Rattle.film_frames.proofs.FramedRunFacts.{is-run-of, span_of}
 use Rattle.film_frames.proofs.RunPieceLemmas.{between, run-piece}
 use Rattle.film_frames.specs.FramedRuns.{pieces_in}
@@ -15,15 +15,13 @@ piece-requires c =
     let has = is-run-of c.self.inside c.args.self.now c.self.view_is c.self.invariant in
     omega (arith, c.first_piece.ensures, c.requires, has.count, has.within)
 
-pub returns-clause-piece : goal.returns-clause-piece
-returns-clause-piece c =
-    let has = is-run-of c.self.inside c.args.self.now c.self.view_is c.self.invariant in
-    sym (rw c.first_piece.ensures (run-piece c.args.number has.is c.requires)) ∙ c.piece.ensures
-
-pub returns-clause-sound : goal.returns-clause-sound
-returns-clause-sound c =
+pub returns : goal.returns
+returns c =
     let f = c.self.inside in
     let run = c.args.self.now in
-    let has = is-run-of c.self.inside c.args.self.now c.self.view_is c.self.invariant in
-    sound-at run.film (pieces_in run) c.args.number c.piece.result (returns-clause-piece c)
-    (between (span_of f) run has.is).sound
+    let is = (is-run-of f run c.self.view_is c.self.invariant).is in
+    let piece : slice_get (pieces_in run) c.args.number ≡ Some c.piece.result =
+    sym (rw c.first_piece.ensures (run-piece c.args.number is c.requires)) ∙ c.piece.ensures in record {
+      piece = piece;
+      sound = sound-at run.film (pieces_in run) c.args.number c.piece.result piece (between (span_of f) run is).sound;
+    }

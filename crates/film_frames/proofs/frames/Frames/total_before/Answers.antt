@@ -8,7 +8,8 @@ use Rattle.film_frames.proofs.frames.Frames.total_before.Goals.{After-first_piec
 in-its-film : (c : After-first_piece-first)
     → InFilm c.self.inside c.args.self.now c.first_piece-first.result c.args.piece
 in-its-film c =
-    in-film (is-run-of c.self.inside c.args.self.now c.self.view_is c.self.invariant) (c.first_piece-first.ensures, c.requires)
+    in-film (is-run-of c.self.inside c.args.self.now c.self.view_is c.self.invariant)
+    (c.first_piece-first.ensures, c.requires)
 
 pub overflow_add-first : goal.overflow_add-first
 overflow_add-first c =
@@ -26,13 +27,11 @@ overflow_sub-result c =
     let at = in-its-film (goal.at.overflow_sub-result c).After-first_piece-first in
     omega (arith, c.total_before.ensures, c.total_before-2.ensures, at.sum (counted_of c.args.counted))
 
-pub returns-clause-sum : goal.returns-clause-sum
-returns-clause-sum c =
-    let at = in-its-film (goal.at.returns-clause-sum c).After-first_piece-first in
-    omega (arith, c.total_before.ensures, c.total_before-2.ensures, at.sum (counted_of c.args.counted))
-
-pub returns-clause-begin : goal.returns-clause-begin
-returns-clause-begin c =
+pub returns : goal.returns
+returns c =
     let f = c.self.inside in
-    let has = is-run-of f c.args.self.now c.self.view_is c.self.invariant in
-    sym (run-begin (span_of f) c.args.self.now c.args.piece has.is)
+    let run = c.args.self.now in
+    let at = in-its-film (goal.at.returns c).After-first_piece-first in record {
+      sum = omega (arith, c.total_before.ensures, c.total_before-2.ensures, at.sum (counted_of c.args.counted));
+      begin = sym (run-begin (span_of f) run c.args.piece (is-run-of f run c.self.view_is c.self.invariant).is);
+    }

@@ -1,5 +1,5 @@
 use Rattle.std.proofs.Common.{◌≡◌, ◌+◌, ◌-◌, ◌<◌, List, [], ◌++◌, ℕ, length, take, drop, get_or, Some}
-use Rattle.std.proofs.Common.{slice_get, arith, refl, sym, ap, subst, ◌∙◌}
+use Rattle.std.proofs.Common.{slice_get, arith, rules, refl, sym, ap, subst, ◌∙◌}
 use Rattle.rtp_pack.specs.declared.reports.TheConstants.{REPORT_BYTES}
 use Rattle.rtp_pack.specs.declared.sizes.TheConstants.{FRAME_HEAD_BYTES}
 use Rattle.film_frames.specs.declared.pieces.Piece.TheVariants.{Report, Frame}
@@ -84,73 +84,56 @@ payload-requires-clause-front c =
     let lies = in-frame (goal.at.payload-requires-clause-front c).After-put_heads in
     omega (arith, lies.inside, c.begin_of.ensures.begin, c.max.ensures, c.in-Frame.ensures.sound.some)
 
-pub returns-in-Report-clause-order : goal.returns-in-Report-clause-order
-returns-in-Report-clause-order c =
-    let lies = in-report (goal.at.returns-in-Report-clause-order c).After-report in
-    omega (arith, lies.inside, c.begin_of.ensures.begin)
-
-pub returns-in-Report-clause-bytes : goal.returns-in-Report-clause-bytes
-returns-in-Report-clause-bytes c =
-    let lies = in-report (goal.at.returns-in-Report-clause-bytes c).After-report in
+pub returns-in-Report : goal.returns-in-Report
+returns-in-Report c =
+    let run = c.args.self.now in
+    let pieces = run_pieces run in
+    let k = c.count_ended-number.result in
+    let o = c.args.at - c.begin_of.result in
+    let begin = c.begin_of.ensures.begin in
+    let lies = in-report (goal.at.returns-in-Report c).After-report in
     let long : length c.report.result ≡ REPORT_BYTES = ap (λ (l : List ℕ). length l) c.report.ensures in
-    let rest = report-rest c.report.result (c.args.at - c.begin_of.result) long
-    (omega (arith, lies.inside, c.begin_of.ensures.begin)) in
-    subst (IsNext (run_pieces c.args.self.now) c.args.at) (sym rest)
-    (next-in (goal.at.returns-in-Report-clause-bytes c).After-begin_of _ (c.report.ensures ∙ sym lies.bytes))
-
-pub returns-in-Report-clause-heads : goal.returns-in-Report-clause-heads
-returns-in-Report-clause-heads c =
-    let run = c.args.self.now in
-    let k = c.count_ended-number.result in
-    let lies = in-report (goal.at.returns-in-Report-clause-heads c).After-report in
-    let part : IsPart (run_pieces run) k c.args.at (REPORT_BYTES - (c.args.at - c.begin_of.result) + 0) = record {
+    let part : IsPart pieces k c.args.at (REPORT_BYTES - o + 0) = record {
       among = lies.number;
       begins = lies.begins;
-      ends = omega (arith, lies.inside, lies.ends, lies.begins, c.begin_of.ensures.begin);
-    } in
-    report-split _ 0 part (λ heads. report-heads run _ _ c.in-Report.unit (subst HasHeads lies.bytes heads)) refl
+      ends = omega (arith, lies.inside, lies.ends, lies.begins, begin);
+    } in record {
+      order = omega (arith, lies.inside, begin);
+      within = search rules;
+      bytes = subst (IsNext pieces c.args.at)
+          (sym (report-rest c.report.result o long (omega (arith, lies.inside, begin))))
+          (next-in (goal.at.returns-in-Report c).After-begin_of _ (c.report.ensures ∙ sym lies.bytes));
+      heads = report-split _ 0 part
+          (λ heads. report-heads run _ _ c.in-Report.unit (subst HasHeads lies.bytes heads)) refl;
+      whole = ends-boundary pieces k _ lies.number (omega (arith, lies.inside, lies.ends, lies.begins, begin));
+      report = search rules;
+    }
 
-pub returns-in-Report-clause-whole : goal.returns-in-Report-clause-whole
-returns-in-Report-clause-whole c =
-    let lies = in-report (goal.at.returns-in-Report-clause-whole c).After-report in
-    ends-boundary (run_pieces c.args.self.now) c.count_ended-number.result _ lies.number
-    (omega (arith, lies.inside, lies.ends, lies.begins, c.begin_of.ensures.begin))
-
-pub returns-in-Frame-clause-bytes : goal.returns-in-Frame-clause-bytes
-returns-in-Frame-clause-bytes c =
+pub returns-in-Frame : goal.returns-in-Frame
+returns-in-Frame c =
     let run = c.args.self.now in
-    let lies = in-frame (goal.at.returns-in-Frame-clause-bytes c).After-put_heads in
-    let part = taken (goal.at.returns-in-Frame-clause-bytes c).After-payload in
-    let whole = c.put_heads.ensures (octets_in (take c.count_ended-number.result (pieces_in run))) in
-    subst (IsNext (run_pieces run) c.args.at) (sym part.0)
-    (next-in (goal.at.returns-in-Frame-clause-bytes c).After-begin_of _ (whole ∙ sym lies.bytes))
-
-pub returns-in-Frame-clause-heads : goal.returns-in-Frame-clause-heads
-returns-in-Frame-clause-heads c =
-    let run = c.args.self.now in
+    let pieces = run_pieces run in
     let k = c.count_ended-number.result in
-    let lies = in-frame (goal.at.returns-in-Frame-clause-heads c).After-put_heads in
-    let part = taken (goal.at.returns-in-Frame-clause-heads c).After-payload in
-    let its : IsPart (run_pieces run) k c.args.at (FRAME_HEAD_BYTES - c.min.result + length c.payload.result.now) =
-    record {
+    let begin = c.begin_of.ensures.begin in
+    let lies = in-frame (goal.at.returns-in-Frame c).After-put_heads in
+    let part = taken (goal.at.returns-in-Frame c).After-payload in
+    let whole = c.put_heads.ensures (octets_in (take k (pieces_in run))) in
+    let its : IsPart pieces k c.args.at (FRAME_HEAD_BYTES - c.min.result + length c.payload.result.now) = record {
       among = lies.number;
       begins = lies.begins;
-      ends = omega (arith, part.1, lies.inside, lies.ends, lies.begins, c.begin_of.ensures.begin);
-    } in
-    let heads = subst HasHeads (sym lies.bytes) (frame-heads run _ 0 c.in-Frame.ensures.sound) in
-    frame-split _ _ its heads (omega (arith, c.min.ensures, c.begin_of.ensures.begin))
-
-pub returns-in-Frame-clause-whole : goal.returns-in-Frame-clause-whole
-returns-in-Frame-clause-whole c =
-    let lies = in-frame (goal.at.returns-in-Frame-clause-whole c).After-put_heads in
-    let part = taken (goal.at.returns-in-Frame-clause-whole c).After-payload in
-    ends-boundary (run_pieces c.args.self.now) c.count_ended-number.result _ lies.number
-    (omega (arith, part.1, lies.inside, lies.ends, lies.begins, c.begin_of.ensures.begin))
-
-pub returns-in-Frame-clause-report : goal.returns-in-Frame-clause-report
-returns-in-Frame-clause-report c = λ other at.
-    let run = c.args.self.now in
-    let count = ap (λ n. slice_get (pieces_in run) n)
-    (count_ended-is (run_pieces run) c.args.at c.count_ended-number.result c.count_ended-number.ensures.count_ended) in
-    let here = c.in-Frame.ensures.piece in
-    let same : Some (Report other) ≡ Some (Frame c.in-Frame.unit c.in-Frame.packet) = sym at ∙ count ∙ here in cc
+      ends = omega (arith, part.1, lies.inside, lies.ends, lies.begins, begin);
+    } in record {
+      order = search rules;
+      within = search rules;
+      bytes = subst (IsNext pieces c.args.at) (sym part.0)
+          (next-in (goal.at.returns-in-Frame c).After-begin_of _ (whole ∙ sym lies.bytes));
+      heads = frame-split _ _ its (subst HasHeads (sym lies.bytes) (frame-heads run _ 0 c.in-Frame.ensures.sound))
+          (omega (arith, c.min.ensures, begin));
+      whole = ends-boundary pieces k _ lies.number
+          (omega (arith, part.1, lies.inside, lies.ends, lies.begins, begin));
+      report = λ other at.
+          let count = ap (λ n. slice_get (pieces_in run) n)
+          (count_ended-is pieces c.args.at k c.count_ended-number.ensures.count_ended) in
+          let same : Some (Report other) ≡ Some (Frame c.in-Frame.unit c.in-Frame.packet) =
+          sym at ∙ count ∙ c.in-Frame.ensures.piece in cc;
+    }

@@ -46,7 +46,8 @@ pub put-requires-clause-room : goal.put-requires-clause-room
 put-requires-clause-room c =
     let film = c.args.film.now in
     let u = unit-in (goal.at.put-requires-clause-room c).After-index-unit in
-    room film.units.items _ c.loop-packet.self c.loop-packet.invariant.table (packets-bound u c.loop-packet.packet-index)
+    room film.units.items _ c.loop-packet.self c.loop-packet.invariant.table
+    (packets-bound u c.loop-packet.packet-index)
 
 pub put-requires-clause-sound : goal.put-requires-clause-sound
 unfolding none

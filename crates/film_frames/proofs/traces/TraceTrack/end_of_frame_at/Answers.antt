@@ -11,7 +11,8 @@ found-in : (c : After-ends_below)
 found-in c =
     let are = trace-track c.self.inside.ends.items c.deref-ends.result.now c.args.self.now c.deref-ends.ensures.value
     c.self.view_is c.self.invariant in
-    let searched : IsSearched (trace_ends c.args.self.now c.deref-ends.result.now are) (c.args.at + 1) c.ends_below.result = record {
+    let searched : IsSearched (trace_ends c.args.self.now c.deref-ends.result.now are) (c.args.at + 1)
+    c.ends_below.result = record {
       count = c.ends_below.ensures.count;
       below = λ j h. omega (arith, c.ends_below.ensures.below j h);
       from = λ h. omega (arith, c.ends_below.ensures.from c.ends_below.result (omega arith) h);
@@ -19,7 +20,8 @@ found-in c =
     record {
       are = are;
       searched = searched;
-      within = found (trace_ends c.args.self.now c.deref-ends.result.now are) searched (omega arith) (omega (arith, c.requires));
+      within = found (trace_ends c.args.self.now c.deref-ends.result.now are) searched
+          (omega arith) (omega (arith, c.requires));
     }
 
 pub overflow_add-at : goal.overflow_add-at
@@ -35,24 +37,19 @@ ends_below-requires c =
 pub bounds-ends-ends_below : goal.bounds-ends-ends_below
 bounds-ends-ends_below c = (found-in (goal.at.bounds-ends-ends_below c).After-ends_below).within
 
-pub returns-clause-boundary : goal.returns-clause-boundary
-returns-clause-boundary c =
-    let at = found-in (goal.at.returns-clause-boundary c).After-ends_below in
-    let place : get_or c.deref-ends.result.now c.ends_below.result 0 - 0
-    ≡ get_or c.deref-ends.result.now c.ends_below.result 0 = omega arith in
-    subst (λ b. IsBoundaryAfter (zero_frames c.args.self.now) (c.args.at + 1) b) place
-    (boundary-found (trace_ends c.args.self.now c.deref-ends.result.now at.are) at.searched
-    (omega arith) at.within)
-
-pub returns-clause-frame : goal.returns-clause-frame
-returns-clause-frame c =
-    let at = found-in (goal.at.returns-clause-frame c).After-ends_below in
+pub returns : goal.returns
+returns c =
+    let at = found-in (goal.at.returns c).After-ends_below in
     let k = c.ends_below.result in
-    let begins = found-begins (trace_ends c.args.self.now c.deref-ends.result.now at.are) at.searched at.within in
-    record {
-      number = k;
-      among = omega (arith, at.within, at.are.count);
-      begins = begins;
-      ends = omega (arith, at.are.each k at.within);
-      later = omega (arith, at.searched.from at.within);
+    let ends = trace_ends c.args.self.now c.deref-ends.result.now at.are in
+    let place : get_or c.deref-ends.result.now k 0 - 0 ≡ get_or c.deref-ends.result.now k 0 = omega arith in record {
+      boundary = subst (λ b. IsBoundaryAfter (zero_frames c.args.self.now) (c.args.at + 1) b) place
+          (boundary-found ends at.searched (omega arith) at.within);
+      frame = record {
+        number = k;
+        among = omega (arith, at.within, at.are.count);
+        begins = found-begins ends at.searched at.within;
+        ends = omega (arith, at.are.each k at.within);
+        later = omega (arith, at.searched.from at.within);
+      };
     }

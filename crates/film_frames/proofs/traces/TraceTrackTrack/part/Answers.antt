@@ -23,7 +23,8 @@ pub returns-clause-full : goal.returns-clause-full
 returns-clause-full c = λ end is.
     let its_end = c.end_of_frame_at-end.ensures.boundary in
     let its = c.end_of_frame_at-end.result in
-    let same : end ≡ its = omega (arith, is.least its its_end.boundary its_end.after, its_end.least end is.boundary is.after) in
+    let same : end ≡ its =
+    omega (arith, is.least its its_end.boundary its_end.after, its_end.least end is.boundary is.after) in
     let long : length c.zeros.result.now ≡ c.min.result =
     ap (λ (l : List ℕ). length l) c.zeros.ensures ∙ length-replicate {A = ℕ} c.min.result 0 in
     omega (arith, long, c.min.ensures, same)
