@@ -1,6 +1,6 @@
 -- Where a head ends, found line by line.
-use Rattle.std.proofs.Common.{◌≡◌, ◌≢◌, ℕ, ◌+◌, ◌-◌, ◌<◌, ◌≤◌, ◌⊎◌, ◌&&◌, ◌==◌, Bool, true, false, cond, nat_lt, List, []}
-use Rattle.std.proofs.Common.{◌∷◌, ◌++◌, length, get_or, take, drop, refl, sym, ap, subst, ◌∙◌, arith, inl, inr}
+use Rattle.std.proofs.Common.{◌≡◌, ◌≢◌, ℕ, ◌+◌, ◌-◌, ◌<◌, ◌≤◌, ◌⊎◌, ◌&&◌, ◌==◌, Bool, true, false, cond, nat_lt, List}
+use Rattle.std.proofs.Common.{[], ◌∷◌, ◌++◌, length, get_or, take, drop, refl, sym, ap, subst, ◌∙◌, arith, inl, inr}
 use Rattle.std.proofs.Common.{ne_eqb}
 use Rattle.std.specs.Str.Lines.{lines}
 use Rattle.std.proofs.lemmas.Bool.{cases_Bool, cases_lt, cases_eq, cond-true, cond-false}
@@ -302,4 +302,5 @@ walk_end w at n walked line =
     }
 
 pub next_ends : (w : List ℕ) (at total : ℕ) → IsMessageLength w total → HasWalked w at → HasNoLine w at → ⊥
-next_ends w at total request walked open_line = no_head_open w at request.head walked.after.none open_line request.is_head
+next_ends w at total request walked open_line =
+    no_head_open w at request.head walked.after.none open_line request.is_head

@@ -201,7 +201,11 @@ request_whole parts sequence request short =
     subst (λ (f : List ℕ). IsMessageLength ((f ++ codes "\r\n") ++ parts.body)
     (length ((f ++ codes "\r\n") ++ parts.body))) (sym (front_of parts))
     (whole_message parts.fields parts.body (line_text parts front) (plain_fields parts.fields front.fields_are)
-    (record { given = request.length_is; head_is = subst long (front_of parts) short.head_is; body_is = short.body_is }))
+    (record {
+      given = request.length_is;
+      head_is = subst long (front_of parts) short.head_is;
+      body_is = short.body_is;
+    }))
 
 -- a method begins a request
 byte_begins : (c : ℕ) → is_token_byte c ≡ true → (is_line_end c ≡ false) × ((c == BLOCK_START) ≡ false)

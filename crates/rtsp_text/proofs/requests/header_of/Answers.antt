@@ -3,18 +3,16 @@ use Rattle.rtsp_text.proofs.FirstField.{found_first, found_none}
 use Rattle.rtsp_text.proofs.LineBounds.{found_short, found_one_line}
 use Rattle.rtsp_text.proofs.requests.header_of.Goals as goal
 
-pub returns-clause-first : goal.returns-clause-first
-returns-clause-first c =
-    found_first (λ x. x.now) c.header_value.result c.args.name.now (header_lines c.args.head.now) c.header_value.ensures
-
-pub returns-clause-none : goal.returns-clause-none
-returns-clause-none c =
-    found_none (λ x. x.now) c.header_value.result c.args.name.now (header_lines c.args.head.now) c.header_value.ensures
-
-pub returns-clause-short : goal.returns-clause-short
-returns-clause-short c =
-    found_short (λ x. x.now) c.header_value.result c.args.name.now c.args.head.now (returns-clause-first c)
-
-pub returns-clause-one_line : goal.returns-clause-one_line
-returns-clause-one_line c =
-    found_one_line (λ x. x.now) c.header_value.result c.args.name.now c.args.head.now (returns-clause-first c)
+pub returns : goal.returns
+returns c =
+    let found = c.header_value.result in
+    let name = c.args.name.now in
+    let head = c.args.head.now in
+    let is = c.header_value.ensures in
+    let first = found_first (λ x. x.now) found name (header_lines head) is in record {
+      value = is;
+      first = first;
+      none = found_none (λ x. x.now) found name (header_lines head) is;
+      short = found_short (λ x. x.now) found name head first;
+      one_line = found_one_line (λ x. x.now) found name head first;
+    }

@@ -17,23 +17,17 @@ returns-in_err-code-clause-replies c =
     (λ code phrase head body is. c.in_err-code.ensures code phrase
     (subst (λ (t : List ℕ). IsStatusLine t code phrase) (sym c.first_line.ensures) is.line))
 
-pub returns-clause-read : goal.returns-clause-read
-returns-clause-read c = record {
-  split = c.split.ensures;
-  line = subst (λ (t : List ℕ). IsStatusLine t c.in_ok-code.code c.in_ok-code.phrase.now) c.first_line.ensures
-      c.in_ok-code.ensures;
-  body_is = (lengths_of c.requires c.split.ensures).body_is;
-}
-
-pub returns-clause-replies : goal.returns-clause-replies
-returns-clause-replies c = λ code phrase head body is.
-    let line = line_once (returns-clause-read c).line is.line in
-    let one = split_at (length head) c.split.ensures is.split.is_head in
-    let other = split_at (length head) is.split is.split.is_head in
-    (line.0, line.1, one.0 ∙ sym other.0, one.1 ∙ sym other.1)
-
-pub returns-clause-head : goal.returns-clause-head
-returns-clause-head c = (lengths_of c.requires c.split.ensures).head_short
-
-pub returns-clause-body : goal.returns-clause-body
-returns-clause-body c = (lengths_of c.requires c.split.ensures).body_short
+pub returns : goal.returns
+returns c =
+    let lengths = lengths_of c.requires c.split.ensures in
+    let line = subst (λ (t : List ℕ). IsStatusLine t c.in_ok-code.code c.in_ok-code.phrase.now) c.first_line.ensures
+    c.in_ok-code.ensures in record {
+      read = record { split = c.split.ensures; line = line; body_is = lengths.body_is };
+      replies = λ code phrase head body is.
+          let same = line_once line is.line in
+          let one = split_at (length head) c.split.ensures is.split.is_head in
+          let other = split_at (length head) is.split is.split.is_head in
+          (same.0, same.1, one.0 ∙ sym other.0, one.1 ∙ sym other.1);
+      head = lengths.head_short;
+      body = lengths.body_short;
+    }
