@@ -213,13 +213,19 @@ run-on {event} {new} x heard next =
       rounds = run.rounds ++ r ∷ [];
       count_is = length-append run.rounds (r ∷ []) ∙ ap (λ n. n + 1) run.count_is;
       history = history_after run.history round.moments;
-      runs = runs-on (stage [] []) run.rounds run.runs (record { round = r; new = _; runs = round.runs; idle = round.idle });
+      runs = runs-on (stage [] []) run.rounds run.runs (record {
+        round = r;
+        new = _;
+        runs = round.runs;
+        idle = round.idle;
+      });
       keeps = round.keeps;
       sight_is = round.sight_is
           ∙ (ap (λ x. observed_more x (requests_after wish run.history round.moments) (payloads_of round.moments))
           (heard ∙ ap (λ (y : Observed). observed (told_more y.told (event ∷ [])) y.out) run.sight_is)
           ∙ (ap (λ x. observed x
-          (told_more (told_more e.before.out (payloads_of (events_of_rounds run.rounds))) (payloads_of round.moments))) told
+          (told_more (told_more e.before.out (payloads_of (events_of_rounds run.rounds)))
+          (payloads_of round.moments))) told
           ∙ ap (λ o. observed (told_more e.before.told (rounds_doings wish [] (run.rounds ++ r ∷ []))) o) out));
     }
 
@@ -285,7 +291,8 @@ watched-end {event} {d = d} x next ends =
       told_is = ap (λ (x : Observed). x.told) ended.sight_is
           ∙ (ap (λ (x : Observed). told_more x.told (sends ended.sent)) next.heard
           ∙ told_more-append r.change.after.told (event ∷ []) (sends ended.sent));
-      out_is = ap (λ (x : Observed). x.out) ended.sight_is ∙ ap (λ (x : Observed). told_more x.out ended.out) next.heard;
+      out_is = ap (λ (x : Observed). x.out) ended.sight_is
+          ∙ ap (λ (x : Observed). told_more x.out ended.out) next.heard;
     })
 
 -- no further event was received

@@ -101,7 +101,8 @@ keeps-taken {w} {b} taken =
           (keeps-frame k.state taken.found.next_is taken.long);
     }
 
-complete-now : {w : Watcher} {b : List ℕ} (taken : TakenFrame w b) → has_all taken.state ≡ is_complete (Frame b ∷ w.history)
+complete-now : {w : Watcher} {b : List ℕ} (taken : TakenFrame w b)
+    → has_all taken.state ≡ is_complete (Frame b ∷ w.history)
 complete-now {w} {b} taken = complete-is w.wish (Frame b ∷ w.history) taken.state (keeps-taken taken).state
 
 -- it goes on, and no request is sent
@@ -153,9 +154,12 @@ pub report-done : {w : Watcher} {b : List ℕ} {state : State} {s : Observed} �
     → state ≡ after_report w.client.watching (length b)
     → HasTakenEvents w.wish w.history (Report b ∷ []) (record w.client { watching = state }) s s
 report-done {w} {b} {state} {s} k is =
-    passed-one {w = record w { client = record w.client { watching = state } }} {e = record { before = s; after = s }} tt
+    passed-one {w = record w {
+      client = record w.client { watching = state };
+    }} {e = record { before = s; after = s }} tt
     (record {
-      replies_are = replies-same w.client state (ap (λ (s : State). s.play) is ∙ report-play w.client.watching (length b))
+      replies_are = replies-same w.client state (ap (λ (s : State). s.play) is
+          ∙ report-play w.client.watching (length b))
           ∙ k.replies_are;
       session_is = k.session_is;
       state = subst (StateInvariant w.wish (Report b ∷ w.history)) (sym is)

@@ -212,7 +212,8 @@ read-is : (read : Result Head HeadFault) (source : Option RtpSource) (h : Histor
     → source_read source read (drop 20 b) (end_ms h) ≡ found_with h b (is_ok read && is_next h b)
 read-is (Err fault) source h b is at = refl
 read-is (Ok head) source h b is at =
-    ap (λ (x : Head). source_after source x (drop 20 b) (end_ms h)) (head-read (drop 4 b) head at) ∙ after-is source h b is
+    ap (λ (x : Head). source_after source x (drop 20 b) (end_ms h)) (head-read (drop 4 b) head at)
+    ∙ after-is source h b is
 
 all-in : (source : Option RtpSource) (h : History) (whole : ℕ) → IsSourceOf source h → whole ≡ length (sizes h)
     → is_all source whole ≡ is_complete h
@@ -255,7 +256,9 @@ some-cond false x = refl
 
 pub good-is : (wish : Wish) (h : History) (s : State) (b : List ℕ) → StateInvariant wish h s
     → is_good_frame h b ≡ is_some (source_with s b)
-good-is wish h s b k = sym (ap is_some (found-is {x = record { wish = wish; history = h; state = s }} b k) ∙ some-cond (is_good_frame h b) _)
+good-is wish h s b k =
+    sym (ap is_some (found-is {x = record { wish = wish; history = h; state = s }} b k)
+    ∙ some-cond (is_good_frame h b) _)
 
 -- ---- a frame
 

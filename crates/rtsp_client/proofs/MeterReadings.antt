@@ -90,7 +90,8 @@ ends-sum ends sizes count are =
           ∙ elim (cases_lt 0 count) [
             | inl some ↦
                 let empty : length sizes ≤ 0 = omega (arith, none, some, are.count) in
-                sym (ap sum (take_all count sizes (omega (arith, empty))) ∙ ap sum (nil_from_length sizes (omega (arith, empty))))
+                sym (ap sum (take_all count sizes (omega (arith, empty)))
+                ∙ ap sum (nil_from_length sizes (omega (arith, empty))))
             | inr zero_ ↦ sym (ap (λ n. sum (take n sizes)) {y = 0} (omega (arith, zero_)))
           ]
       | inr some ↦

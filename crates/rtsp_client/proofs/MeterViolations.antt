@@ -102,7 +102,8 @@ pub record HasNoCounts (wish : Wish) (h : History) : Type 0 where
   pub over : count_over wish h ≡ 0
   pub under : count_under wish h ≡ 0
 
-pub between-always : (f : FilmPlay) (h : History) → IsFilmHeardAlways f.wish f.all f.picture_time h → HasNoCounts f.wish h
+pub between-always : (f : FilmPlay) (h : History) → IsFilmHeardAlways f.wish f.all f.picture_time h
+    → HasNoCounts f.wish h
     → IsBetweenAlways f.wish f.all f.picture_time h
 between-always f [] heard none = tt
 between-always f (Slot slot cut ∷ h) heard none =
@@ -113,7 +114,8 @@ between-always f (Slot slot cut ∷ h) heard none =
       between-always f h heard.0 (record { over = o.1; under = u.1 }),
       λ read. (
         heard.1 read,
-        between f (record { history = h; slot = slot; cut = cut }) (heard.1 read) (tested (is_read h slot) over read o.0)
+        between f (record { history = h; slot = slot; cut = cut }) (heard.1 read)
+        (tested (is_read h slot) over read o.0)
             (tested (is_read h slot) lacks read u.0),
       ),
     )

@@ -210,7 +210,8 @@ play-done {w} {m} {state} {s} play state_is =
       omega (arith, one),
     )
     (record {
-      replies_are = ap (λ (s : State). if is_some s.play then 2 else (if is_some w.client.session then 1 else 0)) state_is
+      replies_are = ap (λ (s : State). if is_some s.play then 2 else (if is_some w.client.session then 1 else 0))
+          state_is
           ∙ ap (λ n. n + 1) (sym one);
       session_is = k.session_is ∙ sym (cond-false (replies h == 0) (unwrap_or (setup_session m) []) (session h) later);
       state = subst (StateInvariant w.wish (Reply m ∷ h)) (sym state_is) (keeps-play k.state one play.read);

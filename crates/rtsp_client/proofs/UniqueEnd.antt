@@ -173,7 +173,8 @@ no-further {wish} {old} quit other (element ∷ more, (is, (n, cut))) = absurd (
     not-on (AtFraming is fault first) = tells_none at.rest (Err fault) first n cut.0
     not-on (AtMoment moment (m, (front, is)) given) =
         let same : element_events element ≡ moment ∷ [] =
-        ap element_events cut.1 ∙ ap (λ k. element_events (take k at.rest)) (element_once at.rest n m cut.0 front) ∙ is in
+        ap element_events cut.1 ∙ ap (λ k. element_events (take k at.rest)) (element_once at.rest n m cut.0 front)
+        ∙ is in
         let on : GoOn at.history (moment ∷ events_of_elements more) =
         subst (λ (ms : List ClientEvent). GoOn at.history (ms ++ events_of_elements more)) same good in
         gives-not-on wish at.history quit.end moment given on.0

@@ -235,7 +235,8 @@ closes-here {at} {f} x =
     subst (λ n. Closes (record at { count = n }) f) here
     (subst (λ s. Closes (record at { stage = s; count = at.count + 0 }) f) x.runs x.closes)
 
-abbrev first-done : {at : CoursePlace} {round : Round} {rounds : List Round} {f : Final} → IsCourse at (round ∷ rounds) f
+abbrev first-done : {at : CoursePlace} {round : Round} {rounds : List Round} {f : Final}
+    → IsCourse at (round ∷ rounds) f
     → RoundDone at
 first-done {at} {round} {rounds} x = record {
   round = round;

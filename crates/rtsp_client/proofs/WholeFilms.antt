@@ -66,7 +66,8 @@ begins-film {film} {rate} packet begins long bounds =
     let rest : length (drop packet.from film) ≡ length film - packet.from = length-drop packet.from film in
     let twelve : 12 ≤ length its = omega (arith, many, rest, long, begins.fits) in
     let byte : (k : ℕ) → k < 12 → get_or its k 0 ≡ get_or film (from + k) 0 =
-    λ k few. get_or-take (packet.to - packet.from) (drop packet.from film) k 0 (omega (arith, few, long)) ∙ get_or-drop packet.from film k 0 in
+    λ k few. get_or-take (packet.to - packet.from) (drop packet.from film) k 0 (omega (arith, few, long))
+    ∙ get_or-drop packet.from film k 0 in
     let same : (k : ℕ) → k < 12 → get_or film (from + k) 0 ≡ get_or film (from + k) 256 =
     λ k few. get_or_default film (from + k) 0 256 (omega (arith, few, begins.fits)) in
     let zero_is : get_or its 0 0 ≡ 0 =
@@ -78,7 +79,8 @@ begins-film {film} {rate} packet begins long bounds =
       and_from _ _ (and_from _ _ (and_from _ _ (le-leb 12 (length its) twelve)
           (and_from _ _ (and_from _ _ (and_from _ _ (eq-eqb _ 0 zero_is) (eq-eqb _ 0 one_is)) (eq-eqb _ 1 two_is))
           (eq-eqb _ 179 three_is)))
-          (le-leb 1 (rate_code its) (omega (arith, code, bounds.0)))) (le-leb (rate_code its) 8 (omega (arith, code, bounds.1))),
+          (le-leb 1 (rate_code its) (omega (arith, code, bounds.0))))
+          (le-leb (rate_code its) 8 (omega (arith, code, bounds.1))),
       code,
     )
 
@@ -153,7 +155,8 @@ film-first s = by-units film.units.items refl
 sizes-count : (h : History) → length (sizes h) ≡ count_last (frames_heard h)
 sizes-count [] = refl
 sizes-count (Frame b ∷ h) =
-    by-last (sizes h) (bytes_pending h + length b) (is_last b) (sizes-count h) ∙ sym (count-append (frames_heard h) (b ∷ []))
+    by-last (sizes h) (bytes_pending h + length b) (is_last b) (sizes-count h)
+    ∙ sym (count-append (frames_heard h) (b ∷ []))
   where
     by-last : {n : ℕ} (all : List ℕ) (size : ℕ) (last : Bool) → length all ≡ n
         → length (cond last (all ++ size ∷ []) all) ≡ n + cond last 1 0
@@ -348,4 +351,5 @@ film-done {h} {message} wish complete two answer =
     let fields : has_fields h message ≡ true = ap (λ n. cond (n == 0) (is_some (setup_session message))
     (cond (n == 1) (is_some (play_range message) && is_some (play_start message)) true)) two in
     let third : 3 ≡ replies h + 1 = omega (arith, two) in
-    inr (inr ((record { awaited = awaited; answer = subst (λ n. IsAnswer message n 200) third answer }, fields), two, refl))
+    inr (inr ((record { awaited = awaited; answer = subst (λ n. IsAnswer message n 200) third answer },
+    fields), two, refl))

@@ -95,7 +95,8 @@ Stops wish mid end sent out =
     ⊎ (GoesOn mid.history moment × Fails wish mid.history moment end sent out))))
 
 -- elements of the bytes that wait were processed, and then nothing more
-pub record StopsAt (wish : Wish) (old : WatchStage) (end : WatchEnd) (sent out : List ℕ) : Type 0 where
+pub record StopsAt (wish : Wish) (old : WatchStage) (end : WatchEnd)
+    (sent out : List ℕ) : Type 0 where
   pub elements : List (List ℕ)
   pub mid : List ℕ
   pub cut : AreInputElements old.rest elements mid

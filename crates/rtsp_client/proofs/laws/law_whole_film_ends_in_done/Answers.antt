@@ -19,26 +19,20 @@ sent c film identity small = record {
   small = small;
 }
 
-pub returns-clause-frame : goal.returns-clause-frame
-returns-clause-frame c = λ film identity h block rest small awaits are.
-    next-good (sent c film identity small) (record { rest = rest; awaits = awaits; are = are })
-
-pub returns-clause-frames : goal.returns-clause-frames
-returns-clause-frames c = λ film identity h events rest small awaits none are.
-    all-accepted (sent c film identity small) h events awaits none (rest, are)
-
-pub returns-clause-before : goal.returns-clause-before
-returns-clause-before c = λ film identity wish h block next rest small awaits are.
-    nothing-before (sent c film identity small) wish (record {
-      rest = rest;
-      awaits = awaits-on (Frame block) tt awaits;
-      are = are ∙ sym (append_assoc (frames_heard h) (block ∷ []) (next ∷ rest));
-    })
-
-pub returns-clause-last : goal.returns-clause-last
-returns-clause-last c = λ film identity wish h block small awaits are.
-    teardown-last (sent c film identity small) wish h block awaits are
-
-pub returns-clause-done : goal.returns-clause-done
-returns-clause-done c = λ film identity wish h message small awaits are two answer.
-    film-done wish (film-complete (sent c film identity small) awaits are) two answer
+pub returns : goal.returns
+returns c = record {
+  frame = λ film identity h block rest small awaits are.
+      next-good (sent c film identity small) (record { rest = rest; awaits = awaits; are = are });
+  frames = λ film identity h events rest small awaits none are.
+      all-accepted (sent c film identity small) h events awaits none (rest, are);
+  before = λ film identity wish h block next rest small awaits are.
+      nothing-before (sent c film identity small) wish (record {
+        rest = rest;
+        awaits = awaits-on (Frame block) tt awaits;
+        are = are ∙ sym (append_assoc (frames_heard h) (block ∷ []) (next ∷ rest));
+      });
+  last = λ film identity wish h block small awaits are.
+      teardown-last (sent c film identity small) wish h block awaits are;
+  done = λ film identity wish h message small awaits are two answer.
+      film-done wish (film-complete (sent c film identity small) awaits are) two answer;
+}

@@ -42,7 +42,8 @@ returns-in-Bytes-clause-on g c =
     (λ h k.
     on_ok_weaker (as_result c.process_input.result) (λ both. round-bytes both.0 both.1)
     (both-ok _ _ (as_result c.process_input.result)
-    (rw (← grown g (goal.at.returns-in-Bytes-clause-on g c).After-put) (c.process_input.ensures.taken h (keeps-moved k)))
+    (rw (← grown g (goal.at.returns-in-Bytes-clause-on g c).After-put)
+    (c.process_input.ensures.taken h (keeps-moved k)))
     c.process_input.ensures.idle))
 
 pub returns-in-Bytes-clause-ended : goal.returns-in-Bytes-clause-ended

@@ -32,7 +32,8 @@ returns-in_err-take_block-in-Ok-Block-clause-stopped g c =
     rw c.from_residual.ensures
     (λ h k.
     let ended = c.in_err-take_block-in-Ok-Block.ensures.ended h (keeps-moved k) in
-    let x = frame-element _ (first_is c.in-Ok-Block.ensures.first c.look.ensures.waiting c.in-Ok-Block.field-0-is) ended.0 in
+    let x = frame-element _ (first_is c.in-Ok-Block.ensures.first c.look.ensures.waiting c.in-Ok-Block.field-0-is)
+    ended.0 in
     rw (← c.look.ensures.waiting) (record {
       sent = ended.1.sent;
       out = ended.1.out;
@@ -52,7 +53,8 @@ pub returns-in_err-take_reply-in-Ok-Request-clause-stopped : goal.returns-in_err
 returns-in_err-take_reply-in-Ok-Request-clause-stopped g c =
     rw c.from_residual-in_err-take_reply-in-Ok-Request.ensures
     (λ h k.
-    let x = reply-element _ (first_is c.in-Ok-Request.ensures.first c.look.ensures.waiting c.in-Ok-Request.field-0-is) in
+    let x = reply-element _
+    (first_is c.in-Ok-Request.ensures.first c.look.ensures.waiting c.in-Ok-Request.field-0-is) in
     let ended = c.in_err-take_reply-in-Ok-Request.ensures.ended (g.O.Sink.written c.args.out.now) h (keeps-moved k) in
     rw (← c.look.ensures.waiting) (record {
       sent = ended.sent;

@@ -70,6 +70,11 @@ returns-clause-passed g c = λ out h k.
     let sent : g.K.Link.told c.send.new.self
     ≡ told_more (g.K.Link.told c.args.link.now) (sends c.as_slice.result.now) = c.in_ok-send.ensures.whole in
     setup-done (reply g (goal.at.returns-clause-passed g c).After-play_request h k)
-    (record { client = record c.args.self.now { session = Some c.in_ok-kept.kept }; replies = first-reply c.args.self.now c.requires.first; session = search rules; watching = refl })
+    (record {
+      client = record c.args.self.now { session = Some c.in_ok-kept.kept };
+      replies = first-reply c.args.self.now c.requires.first;
+      session = search rules;
+      watching = refl;
+    })
     (observed-sent _ _ (play_text c.args.wish.now c.in_ok-session.session.now)
     (sent ∙ ap (λ x. told_more (g.K.Link.told c.args.link.now) (sends x)) text))

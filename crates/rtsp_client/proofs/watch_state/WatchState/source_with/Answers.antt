@@ -1,4 +1,4 @@
-use Rattle.std.proofs.Common.{◌≡◌, Ok, refl, ap, sym, ◌∙◌}
+use Rattle.std.proofs.Common.{◌≡◌, Ok, refl, ap, rules, sym, ◌∙◌}
 use Rattle.rtp_pack.specs.Heads.{head_of}
 use Rattle.rtsp_client.specs.States.{State, source_after}
 use Rattle.rtsp_client.proofs.Sources.{head-long, head-read, head-unread, long-so, rest-whole}
@@ -26,23 +26,19 @@ returns-in_err-head-clause-source c =
     ∙ head-unread c.args.self.now.source c.read_head.result _ c.in_ok-play.play.end_ms
     (sym c.ok.ensures.value ∙ c.in_err-head.was {u = tt}))
 
-pub returns-clause-source : goal.returns-clause-source
-returns-clause-source c =
+pub returns : goal.returns
+returns c =
     let read : c.read_head.result ≡ Ok c.in_ok-head.head =
     head-read c.read_head.result (sym c.ok.ensures.value ∙ c.in_ok-head.was {u = tt}) in
-    rw (
-      ap (λ (s : State). s.play) (sym c.self.view_is) ∙ c.in_ok-play.was {u = tt},
-      sym c.is_complete.ensures ∙ c.if-is_complete.false,
-      ap head_of (sym (rest-whole 4 c.args.block.now)) ∙ (sym c.read_head.ensures ∙ read),
-    )
-    (c.source_after.ensures.source
-    ∙ ap (λ rest. source_after c.args.self.now.source c.in_ok-head.head rest c.in_ok-play.play.end_ms)
-    (rest-whole 20 c.args.block.now))
-
-pub returns-clause-long : goal.returns-clause-long
-returns-clause-long c =
-    let read : c.read_head.result ≡ Ok c.in_ok-head.head =
-    head-read c.read_head.result (sym c.ok.ensures.value ∙ c.in_ok-head.was {u = tt}) in
-    long-so c.source_after.result c.args.block.now
-    (head-long c.args.block.now
-    (ap head_of (sym (rest-whole 4 c.args.block.now)) ∙ (sym c.read_head.ensures ∙ read)))
+    let head = ap head_of (sym (rest-whole 4 c.args.block.now)) ∙ (sym c.read_head.ensures ∙ read) in record {
+      source = rw (
+        ap (λ (s : State). s.play) (sym c.self.view_is) ∙ c.in_ok-play.was {u = tt},
+        sym c.is_complete.ensures ∙ c.if-is_complete.false,
+        head,
+      )
+      (c.source_after.ensures.source
+      ∙ ap (λ rest. source_after c.args.self.now.source c.in_ok-head.head rest c.in_ok-play.play.end_ms)
+      (rest-whole 20 c.args.block.now));
+      follows = search rules;
+      long = long-so c.source_after.result c.args.block.now (head-long c.args.block.now head);
+    }
