@@ -104,7 +104,8 @@ one_line {bytes} {at} one other is are =
     elim (cases_lt one.1 other.1) [
       | inl less ↦ absurd (are.first (one.1 - 1) (omega (arith, is.after)) (omega (arith, is.after, less)) is.feed)
       | inr late ↦ elim (cases_lt other.1 one.1) [
-        | inl less ↦ absurd (is.first (other.1 - 1) (omega (arith, are.after)) (omega (arith, are.after, less)) are.feed)
+        | inl less ↦ absurd (is.first (other.1 - 1) (omega (arith, are.after)) (omega (arith, are.after, less))
+            are.feed)
         | inr early ↦ omega (arith, late, early)
       ]
     ] in

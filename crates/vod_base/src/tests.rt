@@ -8,6 +8,12 @@ use std::fmt;
 use std::process::Abort;
 use std::test::Fail;
 
+// What a row of a table gives is what the row says. A table's loop calls this, since an assertion
+// in the loop itself makes the proof of its test dearer.
+fn same<T: fmt::Debug + PartialEq>(rt: &impl Abort, found: &T, want: &T, row: &str) {
+    assert_eq!(rt; found, want, "at {row:?}");
+}
+
 #[test]
 fn reads_numbers(rt: HostRuntime) {
     for (text, want) in [
@@ -20,7 +26,7 @@ fn reads_numbers(rt: HostRuntime) {
         ("+1", Err(NumberFault::NotDigit(0))),
         ("1a2", Err(NumberFault::NotDigit(1))),
     ] {
-        assert_eq!(rt; read_number(text.as_bytes()), want, "at {text}");
+        same(&rt, &read_number(text.as_bytes()), &want, text);
     }
 }
 
@@ -33,8 +39,8 @@ fn knows_digits(rt: HostRuntime) {
         ("1/", false, false),
         (":1", false, false),
     ] {
-        assert_eq!(rt; are_digits(text.as_bytes()), all, "at {text:?}");
-        assert_eq!(rt; is_decimal(text.as_bytes()), some, "at {text:?}");
+        same(&rt, &are_digits(text.as_bytes()), &all, text);
+        same(&rt, &is_decimal(text.as_bytes()), &some, text);
     }
 }
 
@@ -71,7 +77,7 @@ fn ends_lines(rt: HostRuntime) {
         ("a\r", 0, None),
         ("", 0, None),
     ] {
-        assert_eq!(rt; ends_of(text.as_bytes(), at), want, "at {text:?} {at}");
+        same(&rt, &ends_of(text.as_bytes(), at), &want, text);
     }
 }
 
@@ -91,7 +97,7 @@ fn names_files(rt: HostRuntime) {
             false,
         ),
     ] {
-        assert_eq!(rt; good_name(name.as_bytes()), want, "at {name}");
+        same(&rt, &good_name(name.as_bytes()), &want, name);
     }
 }
 
@@ -118,7 +124,7 @@ fn finds_and_reads(rt: HostRuntime) -> Result<(), Fail> {
     let second = (String::from_str(alloc, "a")?, text(alloc, "hidden")?);
     let mut library = MemoryLibrary::new(vec![in alloc; first, second]?, vec![in alloc; 3]?);
     for (name, want) in [("a", Ok(Some(5))), ("b", Ok(None)), ("a", Err(StoreFault))] {
-        assert_eq!(rt; library.find(name), want);
+        same(&rt, &library.find(name), &want, name);
     }
     let rows: [(&str, u64, &[u8]); 5] = [
         ("a", 0, b"hell"),
@@ -129,7 +135,7 @@ fn finds_and_reads(rt: HostRuntime) -> Result<(), Fail> {
     ];
     for (name, at, want) in rows {
         let mut into = [0u8; 4];
-        assert_eq!(rt; library.read(name, at, &mut into), Ok(want.len()));
+        same(&rt, &library.read(name, at, &mut into), &Ok(want.len()), name);
         assert!(rt; into.starts_with(want));
     }
     prints(&rt, alloc, &library, "MemoryLibrary { .. }")
@@ -141,14 +147,13 @@ fn keeps_what_is_written(rt: HostRuntime) -> Result<(), Fail> {
     let Ok(mut sink) = MemorySink::new(alloc, 8, vec![in alloc; 2]?) else {
         panic!(rt; "no memory for 8 bytes");
     };
-    let rows: [(&[u8], Result<(), SinkFault>); 4] = [
-        (b"abc", Ok(())),
-        (b"d", Err(SinkFault)),
-        (b"defghi", Err(SinkFault)),
-        (b"defgh", Ok(())),
-    ];
-    for (bytes, want) in rows {
-        assert_eq!(rt; sink.write_all(bytes), want);
+    for (text, want) in [
+        ("abc", Ok(())),
+        ("d", Err(SinkFault)),
+        ("defghi", Err(SinkFault)),
+        ("defgh", Ok(())),
+    ] {
+        same(&rt, &sink.write_all(text.as_bytes()), &want, text);
     }
     assert_eq!(rt; sink.bytes(), b"abcdefgh".as_slice());
     prints(&rt, alloc, &sink, "MemorySink { .. }")
@@ -174,7 +179,7 @@ fn link(alloc: Global, events: Vec<Event>, nexts: &[u64]) -> Result<MemoryLink, 
 fn hear(rt: &impl Abort, link: &mut MemoryLink, rows: &[(Result<Heard, LinkFault>, &[u8])]) {
     for (want, bytes) in rows {
         let mut into = [0u8; 3];
-        assert_eq!(rt; link.next(&mut into), *want);
+        same(rt, &link.next(&mut into), want, "a link");
         assert!(rt; into.starts_with(bytes));
     }
 }
@@ -204,14 +209,13 @@ fn hears(rt: HostRuntime) -> Result<(), Fail> {
 fn sends(rt: HostRuntime) -> Result<(), Fail> {
     let alloc = rt.alloc();
     let mut link = link(alloc, Vec::new(alloc), &[])?;
-    let rows: [(&[u8], Result<(), LinkFault>); 4] = [
-        (b"abc", Ok(())),
-        (b"d", Err(LinkFault)),
-        (b"defg", Err(LinkFault)),
-        (b"def", Ok(())),
-    ];
-    for (bytes, want) in rows {
-        assert_eq!(rt; link.send(bytes), want);
+    for (text, want) in [
+        ("abc", Ok(())),
+        ("d", Err(LinkFault)),
+        ("defg", Err(LinkFault)),
+        ("def", Ok(())),
+    ] {
+        same(&rt, &link.send(text.as_bytes()), &want, text);
     }
     assert_eq!(rt; link.sent(), b"abcdef".as_slice());
     prints(&rt, alloc, &link, "MemoryLink { .. }")
@@ -226,6 +230,7 @@ const OPENING: Opening = Opening {
 
 // A gate of one part, which has these links and failing calls.
 fn gate(
+    rt: &impl Abort,
     alloc: Global,
     links: Vec<MemoryLink>,
     failing_in_part: &[u64],
@@ -235,10 +240,7 @@ fn gate(
         links,
         failing: Vec::from_slice(alloc, failing_in_part)?,
     };
-    let text = format!(in alloc; "{part:?}")?;
-    if text.as_str() != "MemoryPart { .. }" {
-        return Err(Fail::from("a part prints otherwise"));
-    }
+    prints(rt, alloc, &part, "MemoryPart { .. }")?;
     let failing = Vec::from_slice(alloc, failing)?;
     Ok(MemoryGate::new(alloc, vec![in alloc; part]?, failing)?)
 }
@@ -247,7 +249,7 @@ fn gate(
 fn gives_and_gets_back(rt: HostRuntime) -> Result<(), Fail> {
     let alloc = rt.alloc();
     let links = vec![in alloc; link(alloc, Vec::new(alloc), &[])?]?;
-    let mut gate = gate(alloc, links, &[3], &[])?;
+    let mut gate = gate(&rt, alloc, links, &[3], &[])?;
     assert_eq!(rt; gate.open(&OPENING), Ok(()));
     let Ok(mut part) = gate.split() else {
         panic!(rt; "the split failed");
@@ -276,7 +278,7 @@ fn gives_links_anew(rt: HostRuntime) -> Result<(), Fail> {
         (Ok(Heard::End), b""),
     ];
     hear(&rt, &mut heard, &rows);
-    let mut gate = gate(alloc, vec![in alloc; heard]?, &[], &[])?;
+    let mut gate = gate(&rt, alloc, vec![in alloc; heard]?, &[], &[])?;
     assert_eq!(rt; gate.open(&OPENING), Ok(()));
     let Ok(mut part) = gate.split() else {
         panic!(rt; "the first split failed");
@@ -288,21 +290,21 @@ fn gives_links_anew(rt: HostRuntime) -> Result<(), Fail> {
         panic!(rt; "the part has a link");
     };
     hear(&rt, &mut given, &rows);
-    assert!(rt; past.take().is_ok_and(|taken| taken.is_none()));
+    assert!(rt; matches!(&past.take(), Ok(None)));
     Ok(())
 }
 
 #[test]
 fn fails_at_its_numbers(rt: HostRuntime) -> Result<(), Fail> {
     let alloc = rt.alloc();
-    let mut gate = gate(alloc, Vec::new(alloc), &[2], &[1, 3])?;
+    let mut gate = gate(&rt, alloc, Vec::new(alloc), &[2], &[1, 3])?;
     assert_eq!(rt; gate.open(&OPENING), Err(GateFault));
     assert_eq!(rt; gate.open(&OPENING), Ok(()));
     assert!(rt; gate.split().is_err());
     let Ok(mut part) = gate.split() else {
         panic!(rt; "the second split failed");
     };
-    assert!(rt; part.take().is_ok_and(|taken| taken.is_none()));
+    assert!(rt; matches!(&part.take(), Ok(None)));
     assert!(rt; part.take().is_err());
     Ok(())
 }

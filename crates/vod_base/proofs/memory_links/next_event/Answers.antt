@@ -11,7 +11,8 @@ loop-bytes-preserved c =
     record { inside = search rules; is = search rules } in
     let passed : IsPassed c.loop-bytes.front c.pass.new.self =
     record { event = c.pass.ensures.event; offset = c.pass.ensures.offset } in
-    ap without_empty_front (left_passed c.args.events.now passed) ∙ empty_passed at (search rules) ∙ c.loop-bytes.invariant
+    ap without_empty_front (left_passed c.args.events.now passed) ∙ empty_passed at (search rules)
+    ∙ c.loop-bytes.invariant
 
 pub returns-in-Some-Bytes-get-clause-front : goal.returns-in-Some-Bytes-get-clause-front
 returns-in-Some-Bytes-get-clause-front c =
