@@ -65,10 +65,15 @@ pub units-le : {end : ℕ} {starts : List ℕ} {units : List PictureUnit} {from 
     → from ≤ to
 units-le {units = []} are = omega (arith, are.chained)
 units-le {starts} {units = unit ∷ units} are =
-    omega (arith, are.chained.0, unit-le starts unit are.laid.0.1, units-le {units = units} (record {
-      laid = are.laid.1;
-      chained = are.chained.1;
-    }))
+    omega (
+      arith,
+      are.chained.0,
+      unit-le starts unit are.laid.0.1,
+      units-le {units = units} (record {
+        laid = are.laid.1;
+        chained = are.chained.1;
+      }),
+    )
 
 pub units-bound : {end : ℕ} {starts : List ℕ} {units : List PictureUnit} {from to : ℕ}
     → AreUnits end starts units from to

@@ -262,8 +262,10 @@ open-head {Has} {c} {past = d ∷ past} {at} k none =
           (let parts = and_parts (is_head c.value) (ltb 0 n) e in
           let slice = slice-there (older s) (ltb-true 0 n parts.1) in
           subst Open (sym e) (open-new s (not-slice c.value n none)
-          (inr ((c.value, (has-new s, head-value c.value parts.0)),
-          (slice.place, ((slice.code, slice.before), slice.none))))))
+          (inr (
+            (c.value, (has-new s, head-value c.value parts.0)),
+            (slice.place, ((slice.code, slice.before), slice.none)),
+          ))))
       | inr e ↦
           subst Open (sym e) (open-with s (not-slice c.value n none)
           (open-head (older s) (left-zero (is_head c.value) (is_slice c.value) n none e)))

@@ -45,7 +45,7 @@ takes-head unit place below short =
     ap (λ b. parts_after (cond b (Some (within unit place place 0)) None) [])
     (and_from (eqb unit unit) (ltb unit place && leb (place - unit) MAX_UNIT_HEAD_BYTES) (eq-eqb unit unit refl)
     (and_from (ltb unit place) (leb (place - unit) MAX_UNIT_HEAD_BYTES)
-        (lt-ltb unit place below) (le-leb (place - unit) MAX_UNIT_HEAD_BYTES short)))
+    (lt-ltb unit place below) (le-leb (place - unit) MAX_UNIT_HEAD_BYTES short)))
 
 takes-slice : {place : ℕ} (unit head_end slice m : ℕ) (calls : List Call) → slice + 4 ≤ place
     → parts_after (Some (within unit head_end slice m)) (slice_call slice place ∷ calls)

@@ -252,7 +252,8 @@ impl Tally {
     }
 
     /// Adds a code, whose header is complete. In place, since most codes change little of the
-    /// tally. Inlined, since little of it is left where the caller knows that the code is a slice's.
+    /// tally. Inlined, since little of it is left where the caller knows that the code is a
+    /// slice's.
     #[inline(always)]
     #[tactic(auto, unfolding(crate::specs::CodeSteps::next))]
     pub(crate) fn add(&mut self, code: &Code)

@@ -296,8 +296,13 @@ why {at} {f} {n} reads goes = elim (cases_lt MAX_PAYLOAD_BYTES n) [
   where
     over : n ≤ MAX_PAYLOAD_BYTES → leb (f.at + n) (f.from + MAX_PAYLOAD_BYTES) ≡ false → MayBy at f.from f.at
     over short less =
-        inr (inr (n, (reads.begins f.at n (inl (refl, refl)),
-        (short, leb-false (f.at + n) (f.from + MAX_PAYLOAD_BYTES) less))))
+        inr (inr (
+          n,
+          (
+            reads.begins f.at n (inl (refl, refl)),
+            (short, leb-false (f.at + n) (f.from + MAX_PAYLOAD_BYTES) less),
+          ),
+        ))
 
     where_short : n ≤ MAX_PAYLOAD_BYTES → (holds : PacketContents) → (holds ≡ LastFragment → at.Must f.at)
         → goes_in_whole f.from f.at holds n ≡ false → MayBy at f.from f.at

@@ -115,7 +115,7 @@ between-always f (Slot slot cut ∷ h) heard none =
       λ read. (
         heard.1 read,
         between f (record { history = h; slot = slot; cut = cut }) (heard.1 read)
-        (tested (is_read h slot) over read o.0)
+            (tested (is_read h slot) over read o.0)
             (tested (is_read h slot) lacks read u.0),
       ),
     )

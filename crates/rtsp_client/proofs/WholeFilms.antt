@@ -351,5 +351,11 @@ film-done {h} {message} wish complete two answer =
     let fields : has_fields h message ≡ true = ap (λ n. cond (n == 0) (is_some (setup_session message))
     (cond (n == 1) (is_some (play_range message) && is_some (play_start message)) true)) two in
     let third : 3 ≡ replies h + 1 = omega (arith, two) in
-    inr (inr ((record { awaited = awaited; answer = subst (λ n. IsAnswer message n 200) third answer },
-    fields), two, refl))
+    inr (inr (
+      (
+        record { awaited = awaited; answer = subst (λ n. IsAnswer message n 200) third answer },
+        fields,
+      ),
+      two,
+      refl,
+    ))

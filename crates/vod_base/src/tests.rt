@@ -135,7 +135,12 @@ fn finds_and_reads(rt: HostRuntime) -> Result<(), Fail> {
     ];
     for (name, at, want) in rows {
         let mut into = [0u8; 4];
-        same(&rt, &library.read(name, at, &mut into), &Ok(want.len()), name);
+        same(
+            &rt,
+            &library.read(name, at, &mut into),
+            &Ok(want.len()),
+            name,
+        );
         assert!(rt; into.starts_with(want));
     }
     prints(&rt, alloc, &library, "MemoryLibrary { .. }")

@@ -17,7 +17,7 @@ loop-portion-preserved c =
           (c.in_ok-put.ensures ∙ ap (λ (p : Packet). c.loop-portion.packets.items ++ p ∷ []) c.packet.ensures)
           ∙ append_assoc c.loop-portion.packets.items _ _
           ∙ ap (λ n. c.loop-portion.packets.items ++ full_packets c.args.unit.now c.loop-portion.begin
-              c.loop-portion.last n)
+          c.loop-portion.last n)
           left
           ∙ c.loop-portion.invariant.packets;
     }

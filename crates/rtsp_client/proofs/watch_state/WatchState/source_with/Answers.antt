@@ -36,9 +36,9 @@ returns c =
         sym c.is_complete.ensures ∙ c.if-is_complete.false,
         head,
       )
-      (c.source_after.ensures.source
-      ∙ ap (λ rest. source_after c.args.self.now.source c.in_ok-head.head rest c.in_ok-play.play.end_ms)
-      (rest-whole 20 c.args.block.now));
+          (c.source_after.ensures.source
+          ∙ ap (λ rest. source_after c.args.self.now.source c.in_ok-head.head rest c.in_ok-play.play.end_ms)
+          (rest-whole 20 c.args.block.now));
       follows = search rules;
       long = long-so c.source_after.result c.args.block.now (head-long c.args.block.now head);
     }
