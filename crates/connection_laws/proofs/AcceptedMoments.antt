@@ -334,7 +334,8 @@ module _ (w : FilmWatch) where
       let texts : AreTexts (last ∷ rest) = subst AreTexts later s.stream.x.later_are in
       let answers : AreAnswers (last ∷ rest) = subst AreAnswers later s.readable.later_are in
       reply_moment last next.moment_is texts.0.moment
-      (inr (s.clauses.done s.stream.film s.stream.identity wish h last s.small inside.awaits frames inside.two answers.0))
+      (inr (s.clauses.done s.stream.film s.stream.identity wish h last s.small inside.awaits frames inside.two
+      answers.0))
 
   -- after the two first replies
   later_moment : (qs : List (List ℕ)) → HasAccepted (s.stream.x.first ∷ s.stream.x.second ∷ qs) h
@@ -365,18 +366,14 @@ module _ (w : FilmWatch) where
       → IsNextIn (all_of s.stream.x) elements moment
       → IsAccepted wish h moment
   moment_accepted [] accepted next =
-      let all : s.stream.x.first ∷ s.stream.x.second ∷ (s.stream.x.blocks ++ s.stream.x.later)
-      ≡ next.element ∷ next.more = next.all_is in
-      let first : next.element ≡ s.stream.x.first = cc in
+      let first : next.element ≡ s.stream.x.first = cc next.all_is in
       let none : replies h ≡ 0 = ap (λ (s : Sum). s.replies) accepted.sum in
       reply_moment next.element next.moment_is (ap element_events first ∙ s.stream.x.first_is.moment)
       (inl (good_reply (omega (arith, none)) (rw none s.readable.setup_is)
       (setup_fields h s.stream.x.first none s.readable.session)))
   moment_accepted (a ∷ []) accepted next =
-      let all : s.stream.x.first ∷ s.stream.x.second ∷ (s.stream.x.blocks ++ s.stream.x.later)
-      ≡ a ∷ next.element ∷ next.more = next.all_is in
-      let first : a ≡ s.stream.x.first = cc in
-      let second : next.element ≡ s.stream.x.second = cc in
+      let first : a ≡ s.stream.x.first = cc next.all_is in
+      let second : next.element ≡ s.stream.x.second = cc next.all_is in
       let single : steps no_sum (events_of_elements (a ∷ [])) ≡ steps no_sum (Reply s.stream.x.first ∷ []) =
       rw (first, s.stream.x.first_is.moment) in
       let one : replies h ≡ 1 = ap (λ (s : Sum). s.replies) (accepted.sum ∙ single) in
@@ -384,11 +381,11 @@ module _ (w : FilmWatch) where
       (inl (good_reply (omega (arith, one)) (rw one s.readable.played_is)
       (play_fields h s.stream.x.second one s.readable.range s.readable.start)))
   moment_accepted (a ∷ b ∷ qs) accepted next =
-      let all : s.stream.x.first ∷ s.stream.x.second ∷ (s.stream.x.blocks ++ s.stream.x.later)
-      ≡ a ∷ b ∷ (qs ++ next.element ∷ next.more) = next.all_is in
-      let first : a ≡ s.stream.x.first = cc in
-      let second : b ≡ s.stream.x.second = cc in
-      let rest : s.stream.x.blocks ++ s.stream.x.later ≡ qs ++ next.element ∷ next.more = cc in
-      let A : List ℕ → List ℕ → Type 0 = λ s t. HasAccepted (s ∷ t ∷ qs) h in
-      later_moment qs (subst (A s.stream.x.first) second (subst (λ y. A y b) first accepted))
-      (record { element = next.element; more = next.more; all_is = rest; moment_is = next.moment_is })
+      let first : a ≡ s.stream.x.first = cc next.all_is in
+      let second : b ≡ s.stream.x.second = cc next.all_is in
+      later_moment qs (rw (first, second) at accepted) (record {
+        element = next.element;
+        more = next.more;
+        all_is = cc next.all_is;
+        moment_is = next.moment_is;
+      })

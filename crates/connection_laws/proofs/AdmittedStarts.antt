@@ -34,7 +34,8 @@ use Rattle.connection_laws.specs.Courses.{Course, askings_of, course_plays}
 use Rattle.connection_laws.specs.Plays.{StationRequest, Asks, FilmPlay, play_by, plays_admitted, plays_begun, plays_of}
 use Rattle.connection_laws.specs.StartRanges.{AreMadeByConnections, IsCourseIn, IsMadeByConnection, StartsInRange}
 use Rattle.connection_laws.proofs.BookedPlays.{course_outcomes, outcomes_in}
-use Rattle.connection_laws.proofs.RequestEffects.{RequestAnswer, Admission, Refusal, HaltMade, LookAnswer, request_answer}
+use Rattle.connection_laws.proofs.RequestEffects.{RequestAnswer, Admission, Refusal, HaltMade, LookAnswer}
+use Rattle.connection_laws.proofs.RequestEffects.{request_answer}
 use Rattle.std.proofs.lemmas.List.{map-append}
 use Rattle.connection_laws.specs.Notes.{StationCall, outcome_of}
 use Rattle.connection_laws.proofs.CourseTurns.{IsKeptByDoings, doings_kept, turns_told}
@@ -198,7 +199,8 @@ ending_entries : (P : PlacedEntry → Type 0) (ending : Ending) → InEntries P 
     → InEntries P (rounds_outcomes (ending_rounds ending))
 ending_entries P (AtElement round) are = each_append (InEntry P) (round_outcomes round) [] are tt
 ending_entries P (InReply round message outcome front) are =
-    each_append (InEntry P) (round_outcomes round) [] (each_front (InEntry P) (round_outcomes round) (outcome ∷ []) are) tt
+    each_append (InEntry P) (round_outcomes round) [] (each_front (InEntry P) (round_outcomes round) (outcome ∷ []) are)
+    tt
 ending_entries P _ are = tt
 
 course_entries : (P : PlacedEntry → Type 0) (rounds : List Round) (ending : Ending)
@@ -208,7 +210,8 @@ course_entries P [] ending are last = ending_entries P ending last
 course_entries P (round ∷ rounds) ending are last =
     let first = round_outcomes round in
     let rest = rounds_outcomes rounds in
-    each_append (InEntry P) first (rounds_outcomes (rounds ++ ending_rounds ending)) (each_front (InEntry P) first rest are)
+    each_append (InEntry P) first (rounds_outcomes (rounds ++ ending_rounds ending))
+    (each_front (InEntry P) first rest are)
     (course_entries P rounds ending (each_rest (InEntry P) first rest are) last)
 
 -- a play begins where the entry that admits it says

@@ -202,7 +202,8 @@ pub record RunFrom : Type 0 where
 pub unit_one : (from : RunFrom) (starts : List ℕ) (unit : PictureUnit) →
     AreOneBlocks (unit_blocks from.run starts unit from.frames from.octets)
 unit_one from starts unit =
-    each_append IsOneBlock (report_if unit.starts_group run unit f o) (frame_blocks run unit f (unit_packets starts unit))
+    each_append IsOneBlock (report_if unit.starts_group run unit f o)
+    (frame_blocks run unit f (unit_packets starts unit))
     (reports_one unit.starts_group run f o unit control) (frames_one run f unit (unit_packets starts unit) media)
   where
     open from use {run, frames as f, octets as o, media, control}

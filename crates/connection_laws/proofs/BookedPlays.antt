@@ -15,7 +15,8 @@ use Rattle.conn.specs.InputSteps.{Outcome, Unasked, Stage, ElementStep, Passed, 
 use Rattle.connection_laws.specs.Courses.{IsCourseBetween, asked_by, askings_of, round_askings, takings_askings, Course}
 use Rattle.connection_laws.specs.Courses.{course_plays, IsCourseSplit}
 use Rattle.connection_laws.specs.Plays.{StationRequest, Asks, plays_admitted, plays_begun, booked_by, booked_plays}
-use Rattle.connection_laws.specs.Plays.{booking_of, kept_among, kept_in, kept_with, play_by, plays_of, FilmPlay, kept_by}
+use Rattle.connection_laws.specs.Plays.{booking_of, kept_among, kept_in, kept_with, play_by, plays_of, FilmPlay}
+use Rattle.connection_laws.specs.Plays.{kept_by}
 use Rattle.connection_laws.proofs.RequestEffects.{Ends, Starts, Stays, TurnsAs, told_by, Begins, begun_is}
 use Rattle.connection_laws.proofs.CourseInduction.{Piece, parts_of, comes_heard, begin_of, course_kept}
 use Rattle.connection_laws.proofs.CourseSteps.{IsKeptStanding, Stands, request_turns, all_kept, kept_from_standing}
@@ -67,9 +68,8 @@ plays_told : (askings : List StationRequest) → AreTold askings
 plays_told [] told = refl
 plays_told (Asks asked outcome ∷ askings) told =
     let made : List PlacedEntry = entries_in (outcomes_in askings) in
-    map-append booking_of (plays_begun asked outcome askings) (plays_of askings)
-    ∙ ap (λ ps. ps ++ map booking_of (plays_of askings)) (told.0 askings made (kept_same askings))
-    ∙ ap (λ ps. told_by outcome made ++ ps) (plays_told askings told.1) ∙ told_more outcome made
+    rw (map-append booking_of (plays_begun asked outcome askings) (plays_of askings))
+    (rw (told.0 askings made (kept_same askings), plays_told askings told.1, told_more outcome made))
 
 outcomes_append : (xs ys : List StationRequest) → outcomes_in (xs ++ ys) ≡ outcomes_in xs ++ outcomes_in ys
 outcomes_append [] ys = refl
@@ -233,13 +233,8 @@ either asked _ = BeginsNone (λ askings. refl)
 none_before : (a b : List StationRequest) → plays_of (a ++ b) ≡ [] → plays_of a ≡ []
 none_before [] b none = refl
 none_before (Asks asked outcome ∷ a) b none = elim (either asked outcome) [
-  | BeginsNone is ↦
-      ap (λ l. l ++ plays_of a) (is a)
-      ∙ none_before a b (sym (ap (λ l. l ++ plays_of (a ++ b)) (is (a ++ b))) ∙ none)
-  | BeginsOne prepared start is ↦
-      let some : play_by prepared start (a ++ b) ∷ plays_of (a ++ b) ≡ [] =
-      sym (ap (λ l. l ++ plays_of (a ++ b)) (is (a ++ b))) ∙ none in
-      absurd (let no : ⊥ = cc in no)
+  | BeginsNone is ↦ rw (is a) (none_before a b (cc (is (a ++ b), none)))
+  | BeginsOne prepared start is ↦ cc (is (a ++ b), none)
 ]
 
 -- one play that is kept entirely: it began already, and is the same, or it begins later
@@ -250,23 +245,15 @@ pub one_so_far : (a b : List StationRequest) (play : FilmPlay) → plays_of (a +
     → play.keep ≡ total_bytes play.plan → IsSoFar a b play
 one_so_far [] b play one whole = inr (refl, one)
 one_so_far (Asks asked outcome ∷ a) b play one whole = elim (either asked outcome) [
-  | BeginsNone is ↦
-      rw (is a)
-      (one_so_far a b play (sym (ap (λ l. l ++ plays_of (a ++ b)) (is (a ++ b))) ∙ one) whole)
+  | BeginsNone is ↦ rw (is a) (one_so_far a b play (cc (is (a ++ b), one)) whole)
   | BeginsOne prepared start is ↦
-      let there : play_by prepared start (a ++ b) ∷ plays_of (a ++ b) ≡ play ∷ [] =
-      sym (ap (λ l. l ++ plays_of (a ++ b)) (is (a ++ b))) ∙ one in
-      let same : play_by prepared start (a ++ b) ≡ play = cc in
-      let none : plays_of (a ++ b) ≡ [] = cc in
-      let all : kept_in (a ++ b) (total_bytes prepared.plan) ≡ total_bytes prepared.plan =
-      ap (λ (p : FilmPlay). p.keep) same ∙ (whole ∙ sym (ap (λ (p : FilmPlay). total_bytes p.plan) same)) in
+      let same : play_by prepared start (a ++ b) ≡ play = cc (is (a ++ b), one) in
+      let none : plays_of (a ++ b) ≡ [] = cc (is (a ++ b), one) in
+      let all : kept_in (a ++ b) (total_bytes prepared.plan) ≡ total_bytes prepared.plan = rw (← same) at whole in
       let kept : kept_in a (total_bytes prepared.plan) ≡ kept_in (a ++ b) (total_bytes prepared.plan) =
       kept_all a (kept_in b (total_bytes prepared.plan)) (total_bytes prepared.plan) (kept_some a)
       (sym (kept_append a b (total_bytes prepared.plan)) ∙ all) ∙ sym all in
-      let mine : play_by prepared start a ≡ play_by prepared start (a ++ b) =
-      ap (λ k. record (play_by prepared start a) { keep = k }) kept in
-      inl (ap (λ l. l ++ plays_of a) (is a)
-      ∙ (ap (λ l. play_by prepared start a ∷ l) (none_before a b none) ∙ ap (λ p. p ∷ []) (mine ∙ same)))
+      inl (rw (is a, none_before a b none, kept) (ap (λ p. p ∷ []) same))
 ]
 
 -- ---- a play begins after the slot that was received, with a plan of segments
@@ -293,28 +280,22 @@ late_lower low heard less (Asks asked outcome) late = λ askings play rest is.
 
 pub late_play : (heard : ℕ) (a : List StationRequest) (play : FilmPlay) (rest : List FilmPlay) → AreLate heard a
     → plays_of a ≡ play ∷ rest → IsLatePlay heard play
-late_play heard [] play rest are is = absurd (let no : ⊥ = cc in no)
+late_play heard [] play rest are is = cc
 late_play heard (Asks asked outcome ∷ a) play rest are is = elim (either asked outcome) [
-  | BeginsNone none ↦ late_play heard a play rest are.1 (sym (ap (λ l. l ++ plays_of a) (none a)) ∙ is)
+  | BeginsNone none ↦ late_play heard a play rest are.1 (cc (none a, is))
   | BeginsOne prepared start one ↦
-      let all : play_by prepared start a ∷ plays_of a ≡ play ∷ rest =
-      sym (ap (λ l. l ++ plays_of a) (one a)) ∙ is in
-      let same : play_by prepared start a ≡ play = cc in
-      are.0 a play [] (one a ∙ ap (λ p. p ∷ []) same)
+      let same : play_by prepared start a ≡ play = cc (one a, is) in are.0 a play [] (cc (one a, same))
 ]
 
 -- by what was asked
 none_late : (heard : ℕ) (asked : Awaited) (outcome : Outcome)
     → ((askings : List StationRequest) → plays_begun asked outcome askings ≡ []) → IsLate heard asked outcome
-none_late heard asked outcome none = λ askings play rest is.
-    let clash : [] ≡ play ∷ rest = sym (none askings) ∙ is in absurd (let no : ⊥ = cc in no)
+none_late heard asked outcome none = λ askings play rest is. cc (none askings, is)
 
 begins_late : (old new : SessionState) (asked : Awaited) (outcome : Outcome) → Begins old asked outcome new
     → IsLate old.heard asked outcome
 begins_late old new asked outcome begins = λ askings play rest is.
-    let all : play_by begins.prepared begins.admitted.start askings ∷ [] ≡ play ∷ rest =
-    sym (begun_is begins askings) ∙ is in
-    let same : play_by begins.prepared begins.admitted.start askings ≡ play = cc in
+    let same : play_by begins.prepared begins.admitted.start askings ≡ play = cc (begun_is begins askings, is) in
     rw (← same) (record { late = begins.admitted.later; plan = subst IsPlan begins.paced begins.pacing.plan })
 
 turn_late : (old new : SessionState) (asked : Awaited) (outcome : Outcome) → TurnsAs old asked outcome new

@@ -158,9 +158,9 @@ pub at_done : {wish : Wish} {watched : Watched} {bytes out : List ℕ} {at : Wat
     (moments : List ClientEvent) → Heard bytes at → IsNext at.rest moment → Gives wish at.history moment (Done watched)
     → at.history ≡ history_after [] moments → out ≡ payloads_of moments
     → ((done : IsDrained wish watched bytes out) × (done.at ≡ at))
-at_done {out} {at} {moment = Reply message} moments heard next (inl bad) history is = absurd (let no : ⊥ = cc in no)
+at_done {out} {at} {moment = Reply message} moments heard next (inl bad) history is = cc
 at_done {out} {at} {moment = Reply message} moments heard next (inr (inl refused)) history is =
-    absurd (let no : ⊥ = cc in no)
+    cc
 at_done {wish} {watched} {out} {at} {moment = Reply message} moments heard next (inr (inr good)) history is = (
   record {
     at = at;
@@ -178,6 +178,6 @@ at_done {wish} {watched} {out} {at} {moment = Reply message} moments heard next 
   },
   refl,
 )
-at_done {out} {at} {moment = Frame block} moments heard next gives history is = absurd (let no : ⊥ = cc in no)
+at_done {out} {at} {moment = Frame block} moments heard next gives history is = cc
 at_done {out} {at} {moment = Report block} moments heard next gives history is = absurd gives
 at_done {out} {at} {moment = Slot slot cut} moments heard next gives history is = absurd gives

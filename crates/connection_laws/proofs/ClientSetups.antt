@@ -44,7 +44,7 @@ literal_byte : (k : ℕ) → k < 10 → get_or (codes "127.0.0.1:") k 0 ≢ 47
 literal_byte k inside = λ slash.
     let other : not (get_or (codes "127.0.0.1:") k 0 == 47) ≡ false = rw slash refl in
     let wrong : true ≡ false = list_all_at (λ byte. not (byte == 47)) (codes "127.0.0.1:") k 0 inside other in
-    let no : ⊥ = cc in no
+    cc
 
 abbrev authority_of : ℕ → List ℕ
 authority_of port = codes "127.0.0.1:" ++ decimal port

@@ -34,7 +34,8 @@ use Rattle.connection_laws.proofs.KeptParts.{replied_setup, comes_setup}
 use Rattle.connection_laws.proofs.ReplyReadings.{IsPrinted, printed_w64, teardown_read as read_teardown}
 use Rattle.connection_laws.specs.WatchEnds.{AreAnswers}
 use Rattle.connection_laws.proofs.RequestReplies.{IsNamed, named_still, teardown_replied}
-use Rattle.conn.proofs.StationAnswers.{AnswersAs, NoneAsked, PlayAdmitted, PlayOverflowed, PlayHalted, LookMade, answers_as}
+use Rattle.conn.proofs.StationAnswers.{AnswersAs, NoneAsked, PlayAdmitted, PlayOverflowed, PlayHalted, LookMade}
+use Rattle.conn.proofs.StationAnswers.{answers_as}
 use Rattle.connection_laws.proofs.CourseInduction.{AnsweredRequest, Piece, GoesBack}
 use Rattle.rtsp_client.specs.Replies.{IsAnswer}
 use Rattle.connection_laws.proofs.ClientSetups.{Beginning}
@@ -97,9 +98,9 @@ admitted_from {start} {placed} {asking} is (PlayAdmitted {start = began} entry a
       new_is = refl;
       whole = λ whole small. whole.admission placed.place start small;
     })
-admitted_from is (PlayOverflowed entry) = absurd (let no : ⊥ = cc in no)
-admitted_from is (PlayHalted entry) = absurd (let no : ⊥ = cc in no)
-admitted_from is (LookMade looked) = absurd (let no : ⊥ = cc in no)
+admitted_from is (PlayOverflowed entry) = cc
+admitted_from is (PlayHalted entry) = cc
+admitted_from is (LookMade looked) = cc
 
 -- ---- TEARDOWN
 

@@ -9,14 +9,16 @@ use Rattle.session.specs.declared.states.AfterHalt.{AfterHalt}
 use Rattle.session.specs.declared.states.State.{State}
 use Rattle.session.specs.declared.states.State.TheVariants.{Init, Ready, Playing, Stopping}
 use Rattle.session.specs.SlotSteps.{kept_of, after_slot, stepped_in}
-use Rattle.session.specs.SessionStates.{SessionState, open_in, open_of, AwaitedAnswer, awaited_answer, AwaitedAnswer, HaltAnswer, NoAnswer}
+use Rattle.session.specs.SessionStates.{SessionState, open_in, open_of, AwaitedAnswer, awaited_answer, HaltAnswer}
+use Rattle.session.specs.SessionStates.{NoAnswer}
 use Rattle.session.specs.SlotTransitions.{IsCarried, after_stop}
 use Rattle.conn.specs.InputSteps.{Outcome, Unasked, Entered, entry_in}
 use Rattle.conn.specs.declared.reports.ConnReport.{ConnReport}
 use Rattle.conn.specs.Agreement.{Activity, HasDone, doings_outcomes}
 use Rattle.connection_laws.specs.Notes.{StationCall, notes_of_calls, notes_of, station_call, kept_later, noted_for}
 use Rattle.connection_laws.specs.Notes.{noted_play, outcome_of, placed_play, placed_plays, PlacedPlay}
-use Rattle.connection_laws.proofs.PlayNotes.{HaveSameNotes, note_part, Carries, IsKept, answered_on, asks_play, carries_none}
+use Rattle.connection_laws.proofs.PlayNotes.{HaveSameNotes, note_part, Carries, IsKept, answered_on, asks_play}
+use Rattle.connection_laws.proofs.PlayNotes.{carries_none}
 use Rattle.connection_laws.proofs.PlayNotes.{halt_turn, halted_open, no_note, notes_until, open_note, same_notes}
 use Rattle.connection_laws.proofs.PlayNotes.{unasked_turn, until_append}
 use Rattle.connection_laws.proofs.StationAnswers.{closing, closes_as, halt_of}
@@ -91,7 +93,7 @@ finished_turn {s} (DoneHalted {keep = keep} entry) kept = halt_turn s entry (kep
 
 -- no play is under way once a connection has ended
 none_open : (state : State) → closing (open_in state) ≡ NoAnswer → open_note state [] ≡ []
-none_open (Playing setup play) none = absurd (let no : ⊥ = cc in no)
+none_open (Playing setup play) none = cc
 none_open _ none = refl
 
 closed_none : {s new : SessionState} {asks : AwaitedAnswer} {halt : Outcome} → FinishesAs s asks halt new

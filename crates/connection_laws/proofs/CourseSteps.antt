@@ -88,7 +88,7 @@ unheld : (pending : Option ℕ) (sends : Sends) (waits : Bool) (heard : ℕ) →
     → waits ≡ false → pending ≡ None
 unheld None sends waits heard held none = refl
 unheld (Some slot) Idle waits heard held none = absurd held
-unheld (Some slot) _ waits heard held none = absurd (true≢false (sym held.0 ∙ none))
+unheld (Some slot) _ waits heard held none = cc (held.0, none)
 
 -- the reply to a request goes out at once, or it waits
 record ReplyMove (s : SessionState) (goes : Bool) : Type 0 where
@@ -219,7 +219,7 @@ pub finish_by : {s new : SessionState} {asks : AwaitedAnswer} {halt : Outcome} �
     → FinishesAs s asks halt new → Finished s halt new
 finish_by (inl rest) is NothingLeft = Quiet rest
 finish_by (inl rest) is (DoneHalted {keep = keep} entry) =
-    let no : NoAnswer ≡ HaltAnswer keep = sym (ap awaited_answer_of rest) ∙ is in absurd (let clash : ⊥ = cc in clash)
+    let no : NoAnswer ≡ HaltAnswer keep = sym (ap awaited_answer_of rest) ∙ is in cc
 finish_by {s} {new} {halt = halt} (inr done) is finishes =
     by-halt (subst (λ a. FinishesAs s a halt new) (sym is ∙ ap awaited_answer_of done.asks) finishes)
   where
@@ -464,12 +464,10 @@ pub film_sent : (old new : Stage) (rounds : List Round) → IsCourseBetween old 
     → film_bytes (rounds_parts rounds) ≡ rounds_film rounds
 film_sent old new [] follows = refl
 film_sent old new (round ∷ rounds) follows =
-    film_bytes-append (round_parts round) (rounds_parts rounds)
-    ∙ ap (λ bs. bs ++ film_bytes (rounds_parts rounds)) (film_bytes-append round.due (takings_parts round.takings))
-    ∙ ap (λ bs. (film_bytes round.due ++ bs) ++ film_bytes (rounds_parts rounds))
-    (takings_film follows.1.0.opened follows.0 round.takings follows.1.0.takes)
-    ∙ ap (λ bs. bs ++ film_bytes (rounds_parts rounds)) (append-nil (film_bytes round.due))
-    ∙ ap (λ bs. film_bytes round.due ++ bs) (film_sent follows.0 new rounds follows.1.1)
+    rw (film_bytes-append (round_parts round) (rounds_parts rounds))
+    (rw (film_bytes-append round.due (takings_parts round.takings))
+    (rw (takings_film follows.1.0.opened follows.0 round.takings follows.1.0.takes, append-nil (film_bytes round.due))
+    (rw (film_sent follows.0 new rounds follows.1.1))))
 
 -- in its course a connection sends what is due of its plays, and each reply at its place
 course_sent : (course : Course) → AreSent (course_plays course) (record {
@@ -479,9 +477,6 @@ course_sent : (course : Course) → AreSent (course_plays course) (record {
 })
 course_sent course =
     let first : Stage = begin_of course in
-    let made : List StationRequest = askings_of first course.rounds course.last course.follows in
-    let slots : List ℕ = slots_from 0 course.rounds in
-    let parts : List SentPart = rounds_parts course.rounds in
     let new : SessionState = course.last.session in
     let step = course_step first course.last course.rounds course.follows
     (first_stands course.films course.settings course.words) in
@@ -493,12 +488,10 @@ course_sent course =
     }) in
     let last : new.heard ≡ greatest_slot course.rounds =
     course_heard first course.last course.rounds course.follows ∙ omega arith in
-    subst (λ t. AreSent (plays_of made) (record { end = t; slots = slots; parts = parts })) last
-    (subst (λ ms. AreSent (plays_of ms) (record { end = new.heard; slots = slots; parts = parts })) (append-nil made)
-    (subst (λ ss. AreSent (plays_of (made ++ [])) (record { end = new.heard; slots = ss; parts = parts }))
-    (append-nil slots)
-    (subst (λ ps. AreSent (plays_of (made ++ [])) (record { end = new.heard; slots = slots ++ []; parts = ps }))
-    (append-nil parts) fits.stand)))
+    let made = append-nil (askings_of first course.rounds course.last course.follows) in
+    let sent = rw (made, append-nil (slots_from 0 course.rounds), append-nil (rounds_parts course.rounds)) at fits.stand in
+    subst (λ t. AreSent (course_plays course)
+    (record { end = t; slots = slots_from 0 course.rounds; parts = rounds_parts course.rounds })) last sent
 
 pub replies_sent : (course : Course) → AreSentAt (greatest_slot course.rounds) (course_plays course)
     (slots_from 0 course.rounds) (course_texts course)

@@ -203,10 +203,6 @@ module _ {films : List Stored} {settings : Settings} {words : List ℕ} {doings 
       ∙ ap (λ os. rounds_outcomes doings.rounds ++ os)
       (ending_outcomes_are done.mid done.last (length doings.rounds) doings.ending report.end done.ends))
 
-heard_late : {old new : SessionState} {message : List ℕ} {outcome : Outcome} → HasHeard old message outcome new
-    → new.late ≡ old.late
-heard_late heard = ap (λ (part : LastingPart). part.late) (request_keeps heard)
-
 -- ---- slots
 slotted_if : (old : SessionState) (slot : ℕ) (taken sending : Bool)
     → (if taken then (if sending then after_play (sent_slot old slot) else record old { heard = slot }) else old).late
@@ -216,15 +212,10 @@ slotted_if old slot true true =
     (sent_due old slot)
 slotted_if old slot _ _ = omega arith
 
-missed_if : (taken : Bool) (heard start slot : ℕ)
-    → (if taken then missed_between heard start slot else 0) ≡ (if taken then slots_missed heard slot start else 0)
-missed_if true heard start slot = missed_is heard start slot
-missed_if false heard start slot = refl
-
 slotted_late : (old : SessionState) (slot : ℕ) → (after_slot old slot).late ≡ old.late + missed_in old slot
 slotted_late old slot =
-    slotted_if old slot (is_taken old slot) (is_sending old.state)
-    ∙ ap (λ n. old.late + n) (missed_if (is_taken old slot && is_sending old.state) old.heard (start_in old.state) slot)
+    rw (← (missed_is old.heard (start_in old.state) slot))
+    (slotted_if old slot (is_taken old slot) (is_sending old.state))
 
 comes_late : {old opened : Stage} {round : Round} → ComesAs old round opened
     → opened.session.late ≡ old.session.late + missed_by old.session round.event
@@ -251,20 +242,12 @@ ending_late old new count (Overfull bytes) end ends = ap (λ (s : Stage). s.sess
 ending_late old new count (AtElement round) end ends = round_late old new round ends.0
 ending_late old new count (InSlot slot front) end ends =
     let failed = ends.1 in
-    let both : (is_taken old.session slot && is_sending old.session.state) ≡ true =
-    and_from (is_taken old.session slot) (is_sending old.session.state) failed.taken failed.sending in
-    failed.late ∙ ap (λ n. old.session.late + n) (missed_is old.session.heard (start_in old.session.state) slot
-    ∙ sym (ap (λ (b : Bool). if b then slots_missed old.session.heard slot (start_in old.session.state) else 0) both))
+    rw (failed.taken, failed.sending, ← (missed_is old.session.heard (start_in old.session.state) slot)) failed.late
 ending_late old new count (InReply round message outcome front) end ends =
     let e = ends.1 in
-    let failed = e.fails in
-    ap (λ (s : Stage). s.session.late) failed.new_is ∙ heard_late failed.heard ∙ round_late old e.mid round e.runs
+    ap (λ (s : Stage). s.session.late) e.fails.new_is
+    ∙ ap (λ (part : LastingPart). part.late) (request_keeps e.fails.heard) ∙ round_late old e.mid round e.runs
 ending_late old new count _ end ends = ap (λ (s : Stage). s.session.late) ends.1 ∙ omega arith
-
-closed_late : (held : Option OpenBooking) (last closed : SessionState) (halt : Outcome) → IsClosed held last halt closed
-    → closed.late ≡ last.late
-closed_late held last closed halt closes =
-    ap (λ (part : LastingPart). part.late) (finish_keeps (closes_as held halt closes))
 
 pub late_is : {films : List Stored} {settings : Settings} {words : List ℕ} {doings : Activity} {report : ConnReport}
     (done : HasDone films settings words doings report) → report.late
@@ -274,7 +257,8 @@ late_is {films} {settings} {words} {doings} {report} done =
     omega (
       arith,
       done.report_is.late,
-      closed_late (open_of done.last.session) done.last.session done.closed doings.halt done.closes,
+      ap (λ (part : LastingPart). part.late)
+          (finish_keeps (closes_as (open_of done.last.session) doings.halt done.closes)),
       ending_late done.mid done.last (length doings.rounds) doings.ending report.end done.ends,
       rounds_late (first_stage films settings words) done.mid doings.rounds done.runs,
     )

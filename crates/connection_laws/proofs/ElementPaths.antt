@@ -120,15 +120,6 @@ exchange_of [] = no_exchange
 exchange_of (Over n ∷ elements) = exchange_of elements
 exchange_of (RequestElement turn ∷ elements) = joined (turn_exchange turn) (exchange_of elements)
 
-abbrev pub elements_bytes : List Element → List ℕ
-elements_bytes elements = (exchange_of elements).bytes
-
-abbrev pub elements_answers : List Element → List Outcome
-elements_answers elements = (exchange_of elements).answers
-
-abbrev pub elements_hearings : List Element → List HeardRequest
-elements_hearings elements = (exchange_of elements).hearings
-
 -- ---- joined, and with more input
 
 -- elements that lead from one stage to another
@@ -290,10 +281,10 @@ idle_done : (old new : Stage) (element : Element)
 idle_done old new element (inl more) goes =
     let first = first_element old new element goes in tells_none old.input (Ok More) more first.0 first.1
 idle_done old new (Over m) (inr request) goes = over_no_request old.input m goes.over request.1.0.0
-idle_done old new (RequestElement turn) (inr request) goes = true≢false (sym request.1.1 ∙ goes.next.replied)
+idle_done old new (RequestElement turn) (inr request) goes = cc (request.1.1, goes.next.replied)
 
 stopped_done : (old new : Stage) (element : Element) (end : ConnEnd) → IsStopped end old → Goes old element new → ⊥
-stopped_done old new element TornDown stopped goes = true≢false (sym stopped ∙ goes_on old new element goes)
+stopped_done old new element TornDown stopped goes = cc (stopped, goes_on old new element goes)
 stopped_done old new element HeadTooLong stopped goes =
     let first = first_element old new element goes in tells_none old.input (Err LongHead) stopped.1 first.0 first.1
 stopped_done old new element BodyTooLong stopped goes =
@@ -403,7 +394,7 @@ overs_same {old} {n = n} {m = m} is also =
 pub ends_same : {old : Stage} {xs ys : List Element} (one other : Exchange) → AreFilms old.session.films
     → (way : PathDone old xs) (also : PathDone old ys)
     → AreAlike (joined (exchange_of xs) one) (joined (exchange_of ys) other)
-    → SameEnds way.last also.last (elements_bytes xs) (elements_bytes ys) one other
+    → SameEnds way.last also.last (exchange_of xs).bytes (exchange_of ys).bytes one other
 ends_same {xs = []} {ys = []} one other films way also alike =
     record {
       last_is = also.goes ∙ sym way.goes;
@@ -424,10 +415,10 @@ ends_same {old} {xs = RequestElement turn ∷ xs} {ys = Over m ∷ ys} one other
 ends_same {old} {xs = RequestElement turn ∷ xs} {ys = RequestElement again ∷ ys} one other films way also alike =
     let taken = way.goes.1.0 in
     let both = turns_same {old = old} {turn = turn} {again = again} (record {
-      ones = elements_answers xs ++ one.answers;
-      others = elements_answers ys ++ other.answers;
-      same = rw (← (append_assoc (answer_in turn.outcome) (elements_answers xs) one.answers))
-          (rw (← (append_assoc (answer_in again.outcome) (elements_answers ys) other.answers)) alike.answers);
+      ones = (exchange_of xs).answers ++ one.answers;
+      others = (exchange_of ys).answers ++ other.answers;
+      same = rw (← (append_assoc (answer_in turn.outcome) (exchange_of xs).answers one.answers))
+          (rw (← (append_assoc (answer_in again.outcome) (exchange_of ys).answers other.answers)) alike.answers);
     }) (record {
       one = way.goes.0;
       other = also.goes.0;

@@ -9,6 +9,7 @@ use Rattle.film_frames.specs.Tracks.{framed_bytes}
 use Rattle.interleave.specs.Streams.{AreInputElements, IsElementLength, IsStream, LineEnd, WholeBlock, WholeMessage}
 use Rattle.interleave.proofs.StreamElements.{TwoCuts, cut_more, cuts_agree, element_once, element_stays, element_within}
 use Rattle.connection_laws.proofs.Lists.{Each}
+use Rattle.connection_laws.proofs.PieceCounts.{at_less, at_more, rest_at}
 
 -- an element by itself, whatever comes after it
 pub record IsAlone (element : List ℕ) : Type 0 where
@@ -17,12 +18,6 @@ pub record IsAlone (element : List ℕ) : Type 0 where
 
 abbrev pub AreAlone : List (List ℕ) → Type 0
 AreAlone = Each IsAlone
-
--- the prefix of an element at which a stream is split
-abbrev pub rest_at : ℕ → List (List ℕ) → List ℕ
-rest_at c [] = []
-rest_at c (element ∷ elements) = cond (nat_le (length element) c) (rest_at (c - length element) elements)
-    (take c element)
 
 pub no_element : (n : ℕ) → IsElementLength [] n → ⊥
 no_element n (LineEnd one some end) = omega (arith, some)
@@ -60,22 +55,16 @@ cut_at [] c alone = let P : List ℕ → Type 0 = λ xs. IsStream xs [] [] in su
 cut_at (p ∷ ps) c alone =
     elim (cases_lt c (length p)) [
       | inl less ↦
-          let count : count_ended c (p ∷ ps) ≡ 0 = rw (lt-leb (length p) c less) in
-          let rest : rest_at c (p ∷ ps) ≡ take c p = rw (lt-leb (length p) c less) in
-          let P : ℕ → Type 0 = λ k. IsStream (take c (p ++ framed_bytes ps)) (take k (p ∷ ps)) (rest_at c (p ∷ ps)) in
-          let Q : List ℕ → Type 0 = λ r. IsStream (take c (p ++ framed_bytes ps)) [] r in
-          subst P (sym count) (subst Q (sym rest) (stream_short p (framed_bytes ps) c alone.0 less))
+          let one = at_less p ps c less in rw (one.0, one.1) (stream_short p (framed_bytes ps) c alone.0 less)
       | inr more ↦
           let d = c - length p in
           let sum : c ≡ length p + d = omega (arith, more) in
-          let count : count_ended c (p ∷ ps) ≡ suc (count_ended d ps) =
-          ap (λ b. cond b (count_ended d ps + 1) 0) (le-leb (length p) c more) ∙ omega arith in
-          let rest : rest_at c (p ∷ ps) ≡ rest_at d ps = rw (le-leb (length p) c more) in
+          let one = at_more p ps c more in
           let bytes : take c (p ++ framed_bytes ps) ≡ p ++ take d (framed_bytes ps) =
           ap (λ n. take n (p ++ framed_bytes ps)) sum ∙ take-append-add p (framed_bytes ps) d in
-          rw count (rw rest (rw bytes
+          rw (one.0, one.1, bytes)
           (stream_cons p (take d (framed_bytes ps)) (take (count_ended d ps) ps) (rest_at d ps) alone.0
-          (cut_at ps d alone.1))))
+          (cut_at ps d alone.1))
     ]
 
 sends_front : {rest : List ℕ} {all cut : List (List ℕ)} (end : List ℕ) (more : List (List ℕ)) → cut ≡ all ++ more

@@ -258,10 +258,9 @@ module _ {wish : Wish} {stored : Stored} {course : Course} (played : HasPlayedWh
       let begin = begin_of course in
       let play = played.play in
       let x = stream_of played in
-      let G : (rs : List Round) → IsCourseBetween begin rs course.last → Type 0 =
-      λ rs f. plays_of (askings_of begin rs course.last f) ≡ play ∷ [] in
-      let H : List Round → Type 0 = λ rs. (f : IsCourseBetween begin rs course.last) × G rs f in
-      let there : H (first ++ later) = subst H split (course.follows, played.plays) in
+      let there : (f : IsCourseBetween begin (first ++ later) course.last)
+      × (plays_of (askings_of begin (first ++ later) course.last f) ≡ play ∷ []) =
+      rw (← split) (course.follows, played.plays) in
       let sent = sent_through course later (record { place = j; slot_is = slot }) there.0 there.1 played.whole.keep in
       let between = sent_between played sent slot in
       let one = rounds_parts first in
@@ -271,24 +270,19 @@ module _ {wish : Wish} {stored : Stored} {course : Course} (played : HasPlayedWh
       let bytes : length (rounds_bytes first) ≡ film + texts_length (placed_texts 0 one) =
       rw (rounds_sent first, parts_length 0 one, size) in
       let texts = split_texts course first later split played.texts in
-      let F : ℕ → Type 0 = λ n. IsFromTo 0 n (placed_texts 0 one) in
       let same : 0 + length (film_bytes one) ≡ film = omega (arith, size) in
-      let within : IsFromTo 0 film (placed_texts 0 one) = subst F same (texts_within 0 one) in
+      let within : IsFromTo 0 film (placed_texts 0 one) = rw (← same) (texts_within 0 one) in
       let counted = counted_by (record {
         setup = played.setup;
         played = played.played;
         some_setup = played.setup_is.starts.0;
         some_played = played.played_is.starts.0;
       }) (placed_texts 0 one) texts within
-      (λ placed rest at.
-      let T : List PlacedText → Type 0 = λ l. IsFromTo (0 + length (film_bytes one))
-      (0 + length (film_bytes one) + length (film_bytes two)) l in
-      let its = subst T at (texts_within (0 + length (film_bytes one)) two) in omega (arith, its.0, same))
+      (λ placed rest is.
+      let its = rw is at (texts_within (0 + length (film_bytes one)) two) in omega (arith, its.0, same))
       (record { after = played.after; few = between.few }) in
-      let C : ℕ → Type 0 = λ n. IsCounted (length x.first) (length x.second) film (length (framed_bytes x.blocks)) n in
-      let here = subst C (sym bytes) counted in
-      let P : ℕ → Type 0 = λ n. IsBetween wish (film_sizes stored.film) (picture_time stored.film.rate) j n in
-      record { between = λ much. subst P (sym (here.is much)) between.between }
+      let here = rw (← bytes) at counted in
+      record { between = λ much. rw (here.is much) between.between }
 
   pub fed : {bytes : List ℕ} {j : ℕ} → IsWrittenBy (rounds_doings course.rounds) (played.play.start + j) bytes
       → IsFed wish stored.film (stream_of played) bytes j
@@ -322,11 +316,9 @@ all_sent {wish} {stored} {course} played =
     let woven_is = bytes_woven course in
     let size : length (film_bytes parts) ≡ length film =
     ap (λ (l : List ℕ). length l) (film_sent begin course.last course.rounds course.follows ∙ film_written_is course) in
-    let T : List PlacedText → Type 0 = λ l. IsFromTo 0 (0 + length (film_bytes parts)) l in
-    let all_within = subst T played.texts (texts_within 0 parts) in
-    let F : ℕ → Type 0 = λ n. IsFromTo 0 n played.later in
-    let within : IsFromTo 0 (length film) played.later =
-    subst F (let e : 0 + length (film_bytes parts) ≡ length film = omega (arith, size) in e) all_within.1.1.1.1 in
+    let all_within = rw played.texts at (texts_within 0 parts) in
+    let whole : 0 + length (film_bytes parts) ≡ length film = omega (arith, size) in
+    let within : IsFromTo 0 (length film) played.later = rw (← whole) all_within.1.1.1.1 in
     let front = all_woven (record { blocks = blocks; count = due_of g play; front_is = is }) played.setup
     played.played played.later
     played.after within in
@@ -366,10 +358,9 @@ all_sent_whole {wish} {stored} {course} played third =
     let sent = sent_bytes (rounds_doings course.rounds) in
     let front = all_sent played in
     let film = length (film_bytes parts) in
-    let T : List PlacedText → Type 0 = λ l. IsFromTo 0 (0 + film) l in
-    let within = subst T played.texts (texts_within 0 parts) in
-    let first = subst T third.are within.1.1.1.1 in
-    let after = subst (AreAfter (length blocks)) third.are played.after in
+    let within = rw played.texts at (texts_within 0 parts) in
+    let first = rw third.are at within.1.1.1.1 in
+    let after = rw third.are at played.after in
     let events = events_are begin course.last course.rounds course.follows in
     let size : length sent ≡ film + texts_length (placed_texts 0 parts) =
     rw (rounds_sent_are course.rounds events, rounds_sent course.rounds, parts_length 0 parts) in

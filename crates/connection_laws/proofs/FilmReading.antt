@@ -76,7 +76,7 @@ record NoReply (ps : List (List ℕ)) : Type 0 where
 all_blocks : {bs ps : List (List ℕ)} {m : List ℕ} (later : List (List ℕ)) (reply_then : ReplyThen m) → NoReply ps →
     AreOneBlocks bs → AreTexts later → ps ++ reply_then.block ∷ reply_then.rest ≡ bs ++ later → ps ≡ bs
 all_blocks {bs = []} {ps = []} {m} later reply_then silent are texts all = refl
-all_blocks {bs = []} {ps = y ∷ ys} {m} [] reply_then silent are texts all = absurd (let no : ⊥ = cc in no)
+all_blocks {bs = []} {ps = y ∷ ys} {m} [] reply_then silent are texts all = cc
 all_blocks {bs = []} {ps = y ∷ ys} {m} (z ∷ zs) reply_then silent are texts all =
     let first : z ≡ y = cc in
     let P : List ℕ → Type 0 = λ q. element_events q ≡ Reply q ∷ [] in

@@ -102,18 +102,18 @@ pub record IsSame (s t : Sum) : Type 0 where
   pub end_ms : t.end_ms ≡ s.end_ms
 
 -- a block is a frame or a report
-pub block_moved : (b : List ℕ) (ms : List ClientEvent) (s : Sum) (P : Sum → Type 0)
+pub block_moved : {b : List ℕ} (ms : List ClientEvent) (s : Sum) (P : Sum → Type 0)
     → (element_events b ≡ Frame b ∷ []) ⊎ (element_events b ≡ Report b ∷ []) → P (steps (step (Frame b) s) ms)
     → P (steps (step (Report b) s) ms) → P (steps s (element_events b ++ ms))
-block_moved b ms s P (inl frame) one two = subst (λ l. P (steps s (l ++ ms))) (sym frame) one
-block_moved b ms s P (inr report) one two = subst (λ l. P (steps s (l ++ ms))) (sym report) two
+block_moved ms s P (inl frame) one two = subst (λ l. P (steps s (l ++ ms))) (sym frame) one
+block_moved ms s P (inr report) one two = subst (λ l. P (steps s (l ++ ms))) (sym report) two
 
 pub blocks_same : (bs : List (List ℕ)) (s : Sum) → AreOneBlocks bs → IsSame s (steps s (events_of_elements bs))
 blocks_same [] s are = record { replies = refl; end_ms = refl }
 blocks_same (b ∷ bs) s are =
     let one = blocks_same bs (step (Frame b) s) are.1 in
     let two = blocks_same bs (step (Report b) s) are.1 in
-    block_moved b (events_of_elements bs) s (IsSame s) are.0.moment
+    block_moved (events_of_elements bs) s (IsSame s) are.0.moment
     (record { replies = one.replies; end_ms = one.end_ms }) (record { replies = two.replies; end_ms = two.end_ms })
 
 -- the bytes of all are received
@@ -122,7 +122,7 @@ pub blocks_received : (bs : List (List ℕ)) (s : Sum) → AreOneBlocks bs → p
 blocks_received [] s are on = omega arith
 blocks_received (b ∷ bs) s are on =
     let one = cond-true (plays s) (s.received + length b) s.received on in
-    block_moved b (events_of_elements bs) s (λ t. t.received ≡ s.received + length (framed_bytes (b ∷ bs))) are.0.moment
+    block_moved (events_of_elements bs) s (λ t. t.received ≡ s.received + length (framed_bytes (b ∷ bs))) are.0.moment
     (omega (arith, blocks_received bs (step (Frame b) s) are.1 on, length-append b (framed_bytes bs)))
     (omega (arith, blocks_received bs (step (Report b) s) are.1 on, one, length-append b (framed_bytes bs)))
 
@@ -134,6 +134,6 @@ pub blocks_first : (bs : List (List ℕ)) (s : Sum) → AreOneBlocks bs → 0 < 
     → (steps s (events_of_elements bs)).first ≡ s.first
 blocks_first [] s are some = refl
 blocks_first (b ∷ bs) s are some =
-    block_moved b (events_of_elements bs) s (λ t. t.first ≡ s.first) are.0.moment
+    block_moved (events_of_elements bs) s (λ t. t.first ≡ s.first) are.0.moment
     (blocks_first bs (step (Frame b) s) are.1 (omega arith)
     ∙ cond-false (s.frames == 0) b s.first (some_frames s.frames some)) (blocks_first bs (step (Report b) s) are.1 some)

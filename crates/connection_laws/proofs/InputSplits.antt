@@ -1,7 +1,6 @@
 -- However the same bytes between the same slots are split, a connection sends the same.
 use Rattle.std.proofs.Common.{◌≡◌, ℕ, ◌++◌, Bool, true, false, List, [], ◌∷◌, map, refl, ap, sym, ◌∙◌, subst, inl, inr}
 use Rattle.std.proofs.Common.{ap₂}
-use Rattle.std.proofs.lemmas.Bool.{true≢false}
 use Rattle.std.proofs.lemmas.List.{append-nil, append_assoc, map-append}
 use Rattle.vod_base.specs.Links.{IoEvent, HeardBytes, HeardSlot}
 use Rattle.film_frames.specs.declared.stored_films.Stored.{Stored}
@@ -16,8 +15,8 @@ use Rattle.connection_laws.specs.InputSplits.{Beginning, InputSplit, HeardReques
 use Rattle.connection_laws.specs.InputSplits.{answer_in, answers_in, heard_in, heard_requests_in}
 use Rattle.connection_laws.proofs.KeptParts.{stepped_names}
 use Rattle.connection_laws.proofs.UniqueResults.{steps_same}
-use Rattle.connection_laws.proofs.ElementPaths.{elements_bytes, GoesAll, Path, Element, ends_same, goes_films}
-use Rattle.connection_laws.proofs.ElementPaths.{goes_grow, longer, path_of, elements_answers, Exchange, no_exchange}
+use Rattle.connection_laws.proofs.ElementPaths.{GoesAll, Path, Element, ends_same, goes_films}
+use Rattle.connection_laws.proofs.ElementPaths.{goes_grow, longer, path_of, Exchange, no_exchange}
 use Rattle.connection_laws.proofs.ElementPaths.{joined, joined_assoc, exchange_of, join_exchange, takings_exchange}
 use Rattle.connection_laws.proofs.ElementPaths.{way_then, Way, PathDone, path_moved, AreAlike}
 use Rattle.connection_laws.proofs.Lists.{joins_parts}
@@ -70,15 +69,6 @@ legs_exchange (leg ∷ legs) = joined (event_exchange (HeardSlot leg.slot) leg.d
 
 abbrev legs_heard : List Leg → List IoEvent
 legs_heard legs = (legs_exchange legs).heard
-
-abbrev legs_bytes : List Leg → List ℕ
-legs_bytes legs = (legs_exchange legs).bytes
-
-abbrev legs_answers : List Leg → List Outcome
-legs_answers legs = (legs_exchange legs).answers
-
-abbrev legs_hearings : List Leg → List HeardRequest
-legs_hearings legs = (legs_exchange legs).hearings
 
 elements_join : (xs ys : List ℕ) (one two : List Element)
     → elements_exchange (xs ++ ys) (one ++ two) ≡ joined (elements_exchange xs one) (elements_exchange ys two)
@@ -193,7 +183,8 @@ round_exchange {cur} new round rounds takes path =
     (joined (record e { heard = [] }) rest)) path.is
     ∙ rw (
       append_assoc (parts_bytes round.due) (takings_bytes round.takings) rest.bytes,
-      joins_parts answers_in (record { one = answer_in; none = refl; more = λ x xs. refl }) (takings_outcomes round.takings) (rounds_outcomes rounds),
+      joins_parts answers_in (record { one = answer_in; none = refl; more = λ x xs. refl })
+          (takings_outcomes round.takings) (rounds_outcomes rounds),
     )
 
 rounds_split : (cur new : Stage) (rounds : List Round) (takes : TakesUp cur rounds new) → IsDrained cur
@@ -215,42 +206,16 @@ rounds_split cur new (round ∷ rounds) takes done =
 
 -- ---- what was received has one split
 
-abbrev is_some : List IoEvent → Bool
-is_some [] = false
-is_some (doing ∷ doings) = true
-
-abbrev is_bytes : List IoEvent → Bool
-is_bytes (HeardBytes bytes ∷ doings) = true
-is_bytes _ = false
-
-abbrev slot_of : List IoEvent → ℕ
-slot_of (HeardSlot slot ∷ doings) = slot
-slot_of _ = 0
-
-abbrev first_in : List ℕ → ℕ
-first_in [] = 0
-first_in (byte ∷ bytes) = byte
-
-abbrev byte_of : List IoEvent → ℕ
-byte_of (HeardBytes bytes ∷ doings) = first_in bytes
-byte_of _ = 0
-
-abbrev tail_of : List IoEvent → List IoEvent
-tail_of [] = []
-tail_of (doing ∷ doings) = doings
-
-no_bytes : (legs : List Leg) → is_bytes (legs_heard legs) ≡ false
-no_bytes [] = refl
-no_bytes (leg ∷ legs) = refl
-
 heard_split : (xs ys : List ℕ) (one other : List Leg) → bytes_heard xs ++ legs_heard one ≡ bytes_heard ys
     ++ legs_heard other → (xs ≡ ys) × (legs_heard one ≡ legs_heard other)
 heard_split [] [] one other same = (refl, same)
-heard_split [] (y ∷ ys) one other same = absurd (true≢false (sym (ap is_bytes same) ∙ no_bytes one))
-heard_split (x ∷ xs) [] one other same = absurd (true≢false (ap is_bytes same ∙ no_bytes other))
+heard_split [] (y ∷ ys) [] other same = cc
+heard_split [] (y ∷ ys) (leg ∷ one) other same = cc
+heard_split (x ∷ xs) [] one [] same = cc
+heard_split (x ∷ xs) [] one (leg ∷ other) same = cc
 heard_split (x ∷ xs) (y ∷ ys) one other same =
-    let rest = heard_split xs ys one other (ap tail_of same) in
-    (ap (λ b. b ∷ xs) (ap byte_of same) ∙ ap (λ bs. y ∷ bs) rest.0, rest.1)
+    let byte : x ≡ y = cc in
+    let rest = heard_split xs ys one other (cc) in (rw (byte, rest.0), rest.1)
 
 -- ---- leg by leg
 
@@ -269,7 +234,7 @@ record ExchangesAlike (a b : Exchange) : Type 0 where
 -- from one stage on, these legs come to the same where what they exchange is alike
 abbrev ComeToSame : List Leg → List Leg → Stage → Stage → Type 0
 ComeToSame xs ys one other = (at : Stage) → AreFilms at.session.films → LegsAll at xs one → LegsAll at ys other
-    → ExchangesAlike (legs_exchange xs) (legs_exchange ys) → SameLegs one other (legs_bytes xs) (legs_bytes ys)
+    → ExchangesAlike (legs_exchange xs) (legs_exchange ys) → SameLegs one other (legs_exchange xs).bytes (legs_exchange ys).bytes
 
 splits_same : {base one other : Stage} {a b : Exchange} → AreFilms base.session.films → (x : Split base one a)
     (y : Split base other b) → ExchangesAlike a b → ComeToSame x.legs y.legs one other
@@ -303,16 +268,16 @@ moved same rest = record {
 
 legs_same : {one other : Stage} (xs ys : List Leg) → ComeToSame xs ys one other
 legs_same [] [] old films legs too given = record { last = too ∙ sym legs; bytes = refl }
-legs_same [] (y ∷ ys) old films legs too given = absurd (true≢false (sym (ap is_some given.heard)))
-legs_same (x ∷ xs) [] old films legs too given = absurd (true≢false (ap is_some given.heard))
+legs_same [] (y ∷ ys) old films legs too given = cc given.heard
+legs_same (x ∷ xs) [] old films legs too given = cc given.heard
 legs_same {one} {other} (x ∷ xs) (y ∷ ys) old films legs too given =
     let leg : IsLeg old x = legs.0 in
     let again : IsLeg old y = too.0 in
-    let slots : y.slot ≡ x.slot = sym (ap slot_of given.heard) in
+    let slots : y.slot ≡ x.slot = cc given.heard in
     let step = steps_same {old = old.session} {slot = x.slot} {one = x.halt} {other = y.halt}
     (record {
-      ones = elements_answers x.rest.elements ++ legs_answers xs;
-      others = elements_answers y.rest.elements ++ legs_answers ys;
+      ones = (exchange_of x.rest.elements).answers ++ (legs_exchange xs).answers;
+      others = (exchange_of y.rest.elements).answers ++ (legs_exchange ys).answers;
       same = given.alike.answers;
     }) (record { due = x.due; new = x.opened.session; stepped = leg.stepped })
     (record { due = y.due; new = y.opened.session; stepped = rw (← slots) again.stepped }) in
@@ -321,11 +286,11 @@ legs_same {one} {other} (x ∷ xs) (y ∷ ys) old films legs too given =
     subst AreFilms (sym (ap (λ (n : List Stored × List ℕ). n.0)
     (stepped_names old.session x.slot x.due x.halt x.opened.session leg.stepped))) films in
     let rest = splits_same kept (split_after x.rest xs legs.1) (split_after (moved opened y.rest) ys too.1)
-    (record { heard = ap tail_of given.heard; alike = record { answers = step.2; memory = given.alike.memory } })
+    (record { heard = cc given.heard; alike = record { answers = step.2; memory = given.alike.memory } })
     (legs_same xs ys) in
     record {
       last = rest.last;
-      bytes = ap (λ ps. parts_bytes ps ++ (elements_bytes y.rest.elements ++ legs_bytes ys)) step.0
+      bytes = ap (λ ps. parts_bytes ps ++ ((exchange_of y.rest.elements).bytes ++ (legs_exchange ys).bytes)) step.0
           ∙ ap (λ bs. parts_bytes x.due ++ bs) rest.bytes;
     }
 

@@ -3,7 +3,8 @@ use Rattle.std.proofs.Common.{◌≡◌, ℕ, ◌&&◌, if◌then◌else◌, Boo
 use Rattle.film_frames.specs.declared.stored_films.Stored.{Stored}
 use Rattle.session.specs.declared.commands.Ask.{Ask}
 use Rattle.session.specs.declared.states.Awaited.{Awaited}
-use Rattle.session.specs.SlotSteps.{due_state, after_play, after_slot, can_reply, is_between, is_sending, is_taken, sent_due}
+use Rattle.session.specs.SlotSteps.{due_state, after_play, after_slot, can_reply, is_between, is_sending, is_taken}
+use Rattle.session.specs.SlotSteps.{sent_due}
 use Rattle.session.specs.SlotSteps.{sent_reply, sent_slot, stepped_in, halted_in, next_of, state_once_halted}
 use Rattle.session.specs.SessionStates.{SessionState, awaited_answer, AwaitedAnswer}
 use Rattle.conn.proofs.HaltAnswers.{finished_as_before}
@@ -188,7 +189,8 @@ pub comes_setup : {old opened : Stage} {round : Round} → ComesAs old round ope
 comes_setup BytesCame = record { names = refl; setup = refl }
 comes_setup {old} (SlotCame {slot = slot} {new = new} finish) = record {
   names = same_names (after_slot old.session slot) new (finish_keeps finish) ∙ slot_names old.session slot;
-  setup = finish_setup finish ∙ state_keeps {part = setup_in} (record { step = stepped_setup; stop = stop_setup }) old.session slot;
+  setup = finish_setup finish
+      ∙ state_keeps {part = setup_in} (record { step = stepped_setup; stop = stop_setup }) old.session slot;
 }
 
 pub replied_setup : (s : SessionState) → IsSameSetup s (after_reply s)

@@ -128,27 +128,29 @@ slot_met {bytes} {at} s slot front two fed read =
     }) playing two.few in
     let its = heard_of stream front.heard.gone reading count in
     let between = (fed (omega (arith, there, first))).between reading.past in
-    let P : ℕ → ℕ → Type 0 = λ place came. IsBetween wish (film_sizes film) (picture_time film.rate) place came in (
-      its.0,
-      rw (← (ap (λ n. slot - n) (sym first))) (subst (λ n. P (slot - begin) n) (sym its.1) between),
-    )
+    (its.0, rw (its.1, first) between)
   where
     open s use {wish, stream, begin, count}
     open stream use {film}
 
 -- ---- all events
 
-always_round : {event : IoEvent} {bytes : List ℕ} {old new : WatchStage} (moments : List ClientEvent)
-    (s : WatchedStream) → Brings event old.rest moments new.rest → new.history ≡ history_after old.history moments
+-- an event that came, and what it brought
+record EventCame (event : IoEvent) (old new : WatchStage) : Type 0 where
+  moments : List ClientEvent
+  brings : Brings event old.rest moments new.rest
+  history : new.history ≡ history_after old.history moments
+
+always_round : {event : IoEvent} {bytes : List ℕ} {old new : WatchStage} (s : WatchedStream) → EventCame event old new
     → HeardFront s.stream.x bytes old → TwoReplies new s.begin
     → ((slot : ℕ) → event ≡ HeardSlot slot → s.begin ≤ slot
     → IsFed s.wish s.stream.film s.stream.x bytes (slot - s.begin))
     → IsMet s old.history → IsMet s new.history
-always_round {event = HeardBytes more} {old = old} moments s brings history front two fed met =
-    subst (IsMet s) (sym (history ∙ ap (history_after old.history) brings.1.1))
-    (always_elements s.wish (film_sizes s.stream.film) (picture_time s.stream.film.rate) old.history brings.0 met)
-always_round {event = HeardSlot slot} {old = old} {new} moments s brings history front two fed met =
-    let grown : new.history ≡ Slot slot (cut_bytes old.rest) ∷ old.history = rw (history, brings.0) in
+always_round {event = HeardBytes more} {old = old} s came front two fed met =
+    rw (came.history, came.brings.1.1) (always_elements s.wish (film_sizes s.stream.film)
+    (picture_time s.stream.film.rate) old.history came.brings.0 met)
+always_round {event = HeardSlot slot} {old = old} {new} s came front two fed met =
+    let grown : new.history ≡ Slot slot (cut_bytes old.rest) ∷ old.history = rw (came.history, came.brings.0) in
     let same : replies new.history ≡ replies old.history = ap replies grown in
     let begins_here : 1 < replies old.history → first_slot old.history ≡ s.begin = λ playing.
     sym (ap first_slot grown) ∙ two.begins (omega (arith, playing, same)) in
@@ -157,7 +159,7 @@ always_round {event = HeardSlot slot} {old = old} {new} moments s brings history
       λ read. slot_met s slot front
           (record { few = omega (arith, two.few, same); begins = begins_here }) (fed slot refl) read,
     )
-always_round moments s brings history front two fed met = absurd brings
+always_round s came front two fed met = absurd came.brings
 
 -- what was received by a stage, and what rounds bring after it, is a prefix of a stream
 pub record HeardThrough (x : Stream) (bytes : List ℕ) (rounds : List Round) (old : WatchStage) : Type 0 where
@@ -188,7 +190,8 @@ always_all {bytes} {old} {rounds = round ∷ rounds} {new} s through all known f
     subst F (append-nil bytes) (fed [] rounds round slot refl event after_begin) in
     let mine : bytes ≡ take (length bytes) (framed_bytes (all_of x)) =
     front_of bytes (rounds_heard (round ∷ rounds)) (framed_bytes (all_of x)) c front in
-    let now = always_round {event = round.event} round.moments s all.1.0.brings all.1.0.history_is
+    let now = always_round {event = round.event} s
+    (record { moments = round.moments; brings = all.1.0.brings; history = all.1.0.history_is })
     (record { heard = heard; idle = idle; front_is = mine }) (record { few = few_here; begins = begins_here })
     fed_here met in
     let next : (bytes ++ bytes_in round.event) ++ rounds_heard rounds ≡ take c (framed_bytes (all_of x)) =

@@ -14,10 +14,10 @@ use Rattle.film_frames.specs.Tracks.{framed_bytes}
 use Rattle.rtsp_client.specs.Answers.{block_events, cut_bytes, events_of_elements, element_events}
 use Rattle.rtsp_client.specs.WatchCourses.{WatchStage}
 use Rattle.rtsp_client.specs.ClientHistory.{Reply, replies}
-use Rattle.connection_laws.proofs.PieceCounts.{count_bytes, count_less, count_more, count_most, count_past, count_whole}
-use Rattle.connection_laws.proofs.PieceCounts.{count_within, rest_less, rest_more, rest_past, rest_within}
+use Rattle.connection_laws.proofs.PieceCounts.{all_past, all_within, at_less, at_more, count_bytes, count_most}
+use Rattle.connection_laws.proofs.PieceCounts.{count_whole, rest_at}
 use Rattle.connection_laws.proofs.ClientInput.{Heard, no_sum}
-use Rattle.connection_laws.proofs.ElementStreams.{AreAlone, IsAlone, cut_at, rest_at}
+use Rattle.connection_laws.proofs.ElementStreams.{AreAlone, IsAlone, cut_at}
 use Rattle.connection_laws.proofs.HistorySums.{AreOneBlocks, Sum, blocks_same, step, steps, steps_on, sum_of}
 use Rattle.connection_laws.proofs.UnitSizes.{moments_parts}
 use Rattle.connection_laws.proofs.Lists.{Each}
@@ -55,8 +55,8 @@ texts_cut : (ms : List (List ℕ)) (d : ℕ) → AreTexts ms → cut_bytes (rest
 texts_cut [] d are = refl
 texts_cut (m ∷ ms) d are =
     elim (cases_lt d (length m)) [
-      | inl less ↦ ap cut_bytes (rest_less m ms d less) ∙ take_cut m d are.0.other
-      | inr more ↦ ap cut_bytes (rest_more m ms d more) ∙ texts_cut ms (d - length m) are.1
+      | inl less ↦ let one = at_less m ms d less in rw one.1 (take_cut m d are.0.other)
+      | inr more ↦ let one = at_more m ms d more in rw one.1 (texts_cut ms (d - length m) are.1)
     ]
 
 block_cut : (b : List ℕ) (d : ℕ) → d ≤ length b → get_or b 0 0 ≡ 36 → get_or b 1 0 < 2
@@ -82,11 +82,9 @@ blocks_cut [] c are = refl
 blocks_cut (b ∷ bs) c are =
     elim (cases_lt c (length b)) [
       | inl less ↦
-          let rest = rest_less b bs c less in
-          ap cut_bytes rest ∙ (block_cut b c (omega (arith, less)) are.0.starts are.0.channel ∙ ap length (sym rest))
-      | inr more ↦
-          let rest = rest_more b bs c more in
-          ap cut_bytes rest ∙ (blocks_cut bs (c - length b) are.1 ∙ ap length (sym rest))
+          let one = at_less b bs c less in
+          rw one.1 (block_cut b c (omega (arith, less)) are.0.starts are.0.channel)
+      | inr more ↦ let one = at_more b bs c more in rw one.1 (blocks_cut bs (c - length b) are.1)
     ]
 
 -- ---- a stream of two replies, blocks, and later replies
@@ -146,16 +144,14 @@ module _ {at : WatchStage} where
   reading_inside {x} {c} two inside =
       let d = film_place x c in
       let bs = x.blocks in
-      let s = begun_sum x in
-      let within = count_within bs x.later d inside in
-      let k = count_ended d bs in
-      let its = rest_within bs x.later d inside in record {
+      let within = all_within bs x.later d inside in
+      let k = count_ended d bs in record {
         past = two.past;
-        sum = two.sum ∙ (ap (λ n. steps s (events_of_elements (take n (bs ++ x.later)))) within.0
-            ∙ ap (λ l. steps s (events_of_elements l)) (take-append-le k bs x.later (omega (arith, within.1))));
+        sum = rw (two.sum, within.0, take-append-le k bs x.later (omega (arith, within.1)));
         cut =
             let bytes = count_bytes bs d (omega (arith, inside)) in
-            let cut : cut_bytes at.rest ≡ length (rest_at d bs) = rw (two.rest, its, blocks_cut bs d x.blocks_are) in
+            let cut : cut_bytes at.rest ≡ length (rest_at d bs) =
+            rw (two.rest, within.2, blocks_cut bs d x.blocks_are) in
             omega (arith, bytes, cut, inside);
       }
 
@@ -168,13 +164,11 @@ module _ {at : WatchStage} where
       let total = length (framed_bytes bs) in
       let s = begun_sum x in
       let k = count_ended (d - total) x.later in
-      let many : count_ended d (bs ++ x.later) ≡ length bs + k = count_past bs x.later d after in
+      let past = all_past bs x.later d after in
       let t = steps s (events_of_elements bs) in
       let all : sum_of at.history ≡ steps t (events_of_elements (take k x.later)) =
-      two.sum ∙ (ap (λ n. steps s (events_of_elements (take n (bs ++ x.later)))) many
-      ∙ (ap (λ l. steps s (events_of_elements l)) (take-append-add bs x.later k)
-      ∙ (ap (steps s) (moments_parts bs (take k x.later))
-      ∙ steps_on s (events_of_elements bs) (events_of_elements (take k x.later))))) in
+      rw (two.sum, past.0, take-append-add bs x.later k, moments_parts bs (take k x.later))
+      (rw (steps_on s (events_of_elements bs) (events_of_elements (take k x.later)))) in
       let same = (blocks_same bs s x.blocks_are).replies in
       let counted = texts_count x.later k t x.later_are (count_most x.later (d - total)) in
       let none : k ≡ 0 = omega (arith, ap (λ (z : Sum). z.replies) all, counted, same, two.few) in
@@ -185,7 +179,7 @@ module _ {at : WatchStage} where
             ∙ ap (λ l. steps s (events_of_elements l)) (sym front));
         cut =
             let cut : cut_bytes at.rest ≡ 0 =
-            ap cut_bytes (two.rest ∙ rest_past bs x.later d after) ∙ texts_cut x.later (d - total) x.later_are in
+            rw (two.rest, past.1) (texts_cut x.later (d - total) x.later_are) in
             omega (arith, cut, ap (λ l. length (framed_bytes l)) front, after);
       }
 
@@ -223,33 +217,27 @@ module _ {x : Stream} {at : WatchStage} (received : StreamHeard x at) where
       let after_first = x.second ∷ (x.blocks ++ x.later) in
       elim (cases_lt c (length x.first)) [
         | inl short ↦
-            let nothing = ap (λ n. steps no_sum (events_of_elements (take n all))) (count_less x.first after_first c
-            short) in
-            absurd (omega (arith, playing, ap (λ (z : Sum). z.replies) (whole.0 ∙ nothing)))
+            let nothing : sum_of at.history ≡ no_sum = rw (whole.0, (at_less x.first after_first c short).0) in
+            absurd (omega (arith, playing, ap (λ (z : Sum). z.replies) nothing))
         | inr long ↦
             let c1 = c - length x.first in
-            let one = count_more x.first after_first c long in
-            let rest_one = rest_more x.first after_first c long in
+            let one = at_more x.first after_first c long in
             elim (cases_lt c1 (length x.second)) [
               | inl short ↦
                   let only : take (count_ended c all) all ≡ x.first ∷ [] =
-                  ap (λ n. take n all) (one ∙ ap suc (count_less x.second (x.blocks ++ x.later) c1 short)) in
-                  let single : steps no_sum (events_of_elements (x.first ∷ [])) ≡ steps no_sum (Reply x.first ∷ []) =
-                  ap (λ l. steps no_sum (l ++ [])) x.first_is.moment in
-                  absurd (omega (
-                    arith,
-                    playing,
-                    ap (λ (z : Sum). z.replies)
-                        (whole.0 ∙ (ap (λ l. steps no_sum (events_of_elements l)) only ∙ single)),
-                  ))
+                  rw (one.0, (at_less x.second (x.blocks ++ x.later) c1 short).0) in
+                  let single : sum_of at.history ≡ steps no_sum (Reply x.first ∷ []) =
+                  rw (whole.0, only, x.first_is.moment) in
+                  absurd (omega (arith, playing, ap (λ (z : Sum). z.replies) single))
               | inr more ↦
+                  let two = at_more x.second (x.blocks ++ x.later) c1 more in
                   let k = count_ended (film_place x c) (x.blocks ++ x.later) in
-                  let two : take (count_ended c all) all ≡ x.first ∷ x.second ∷ take k (x.blocks ++ x.later) =
-                  ap (λ n. take n all) (one ∙ ap suc (count_more x.second (x.blocks ++ x.later) c1 more)) in
+                  let front : take (count_ended c all) all ≡ x.first ∷ x.second ∷ take k (x.blocks ++ x.later) =
+                  rw (one.0, two.0) in
                   reading_film {x = x} {c = c} (record {
                     past = omega (arith, long, more);
-                    sum = rw (whole.0, two, two_moments x (take k (x.blocks ++ x.later)));
-                    rest = whole.1 ∙ (rest_one ∙ rest_more x.second (x.blocks ++ x.later) c1 more);
+                    sum = rw (whole.0, front, two_moments x (take k (x.blocks ++ x.later)));
+                    rest = rw (whole.1, one.1, two.1);
                     few = few;
                   })
             ]

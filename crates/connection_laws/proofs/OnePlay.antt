@@ -40,12 +40,12 @@ use Rattle.connection_laws.proofs.ReplyReadings.{IsSetupRead, setup_read}
 use Rattle.connection_laws.proofs.RequestReplies.{IsNamed, named_still, setup_replied}
 use Rattle.connection_laws.proofs.BookedPlays.{comes_none}
 use Rattle.rtsp_replies.specs.Messages.{IsMessage}
+use Rattle.connection_laws.proofs.Lists.{Each}
 
 -- ---- the walk to PLAY
 
 abbrev pub AreSetups : Beginning → List (List ℕ) → Type 0
-AreSetups b [] = ⊤
-AreSetups b (message ∷ messages) = (message ≡ setup_text b.wish) × AreSetups b messages
+AreSetups b = Each (λ message. message ≡ setup_text b.wish)
 
 -- so many slots at the beginning are before another one
 abbrev pub AreBefore : ℕ → ℕ → List ℕ → Type 0
@@ -127,11 +127,9 @@ pub record Leads (b : Beginning) (out : Outlook) (s : SessionState) (later : Pie
 -- SETUP asks for no play
 pub setup_no_play : (b : Beginning) {message : List ℕ} → message ≡ setup_text b.wish → IsNoPlay message
 setup_no_play b {message} is = λ request read method.
-    let S : List ℕ → Type 0 = λ m.
-    IsSetupRequest m (film_url b.wish ++ codes "/video") (request_head (setup_parts b.wish)) in
-    let setup = subst S (sym is) (setup_is b) in
+    let setup = rw (← is) at (setup_is b) in
     let same = request_once setup.read read in
-    let clash : 83 ≡ 80 = ap (λ name. get_or name 0 0) (same.method_is ∙ method) in omega (arith, clash)
+    omega (arith, ap (λ name. get_or name 0 0) (same.method_is ∙ method))
 
 -- a play is the one that is to come, with those after it
 record IsPlayBegun (out : Outlook) (mine : FilmPlay) (later : List StationRequest) : Type 0 where
@@ -167,10 +165,9 @@ module _ {b : Beginning} {out : Outlook} (taken : Taken b out) where
   begun_same : IsPlayTaken → (begins : PlayBegins)
       → IsPlayBegun out (play_by begins.prepared begins.admitted.start later.askings) later.askings
   begun_same play begins =
-      let all : play_by begins.prepared begins.admitted.start later.askings ∷ plays_of later.askings
-      ≡ out.play ∷ out.others =
-      sym (ap (λ l. l ++ plays_of later.askings) (begun_is begins later.askings)) ∙ play.plays in
-      record { same = cc; rest = cc }
+      let begun = begun_is begins later.askings in
+      let plays = play.plays in
+      record { same = cc (begun, plays); rest = cc (begun, plays) }
 
   -- a play begins at PLAY
   begun_play : IsPlayTaken → PlayBegins → IsOnePlay b out old.session.heard 0 (old.session.heard ∷ later.slots)
@@ -189,10 +186,7 @@ module _ {b : Beginning} {out : Outlook} (taken : Taken b out) where
 
   -- nothing begins at PLAY, though a play is to come
   not_begun : IsPlayTaken → plays_begun heard.asking.awaited outcome later.askings ≡ [] → ⊥
-  not_begun play begun =
-      let clash : [] ≡ out.play ∷ out.others =
-      sym play.none ∙ (sym (ap (λ l. l ++ plays_of later.askings) begun) ∙ play.plays) in
-      let no : ⊥ = cc in no
+  not_begun play begun = cc (play.none, begun, play.plays)
 
   turn_begins : IsPlayTaken → TurnsAs old.session heard.asking.awaited outcome replied.answered → PlayBegins
   turn_begins play (Stays same still) = absurd (not_begun play (still.none later.askings))
@@ -202,9 +196,8 @@ module _ {b : Beginning} {out : Outlook} (taken : Taken b out) where
   -- where all SETUPs were processed, PLAY is processed
   play_first : IsAhead b out old.session [] (from_taken taken) → IsPlayTaken × (later.requests ≡ out.last)
   play_first is =
-      let all : message ∷ later.requests ≡ play_text b.wish b.session ∷ out.last = is.requests_are in
-      let at : message ≡ play_text b.wish b.session = cc in
-      let rest : later.requests ≡ out.last = cc in
+      let at : message ≡ play_text b.wish b.session = cc is.requests_are in
+      let rest : later.requests ≡ out.last = cc is.requests_are in
       let none = leads.none (request_stands request is.waits.stands) (subst AreNoPlays (sym rest) out.last_are) in
       (record { waits = is.waits; message_is = at; none = none; plays = is.plays }, rest)
 
@@ -243,12 +236,8 @@ module _ {b : Beginning} {out : Outlook} (taken : Taken b out) where
         elim (setup_replied b request at) [
           | inl still ↦
               let unset : setup_in new.session.state ≡ None =
-              ap (λ (s : Stage). setup_in s.session.state) replied.new_is
-              ∙ ((replied_setup replied.answered).setup
-              ∙ (ap (λ (s : SessionState). setup_in s.state) same ∙ (ap setup_in still ∙ fresh))) in
-              let has : false ≡ true =
-              sym (has_setup new.session.state ∙ ap (λ (o : Option Setup). is_some o) unset) ∙ ready in
-              absurd (let no : ⊥ = cc in no)
+              cc (replied.new_is, (replied_setup replied.answered).setup, same, still, fresh) in
+              cc (unset, has_setup new.session.state, ready)
           | inr text ↦
               setup_read old.session.source.ssrc old.session.id whole (id_printed named)
               (ap (λ (s : SessionState). s.text) same ∙ text)
@@ -259,17 +248,14 @@ module _ {b : Beginning} {out : Outlook} (taken : Taken b out) where
   setup_walk : (one : List ℕ) → IsAhead b out old.session (one ∷ []) (from_taken taken)
       → IsPlayedWhole b out old.session 1 (from_taken taken)
   setup_walk one is =
-      let all : message ∷ later.requests ≡ one ∷ (play_text b.wish b.session ∷ out.last) = is.requests_are in
-      let here : message ≡ one = cc in
-      let rest : later.requests ≡ play_text b.wish b.session ∷ out.last = cc in
-      let at : message ≡ setup_text b.wish = here ∙ is.setups.0 in
+      let at : message ≡ setup_text b.wish = cc (is.requests_are, is.setups.0) in
       let none = no_play_begins request is.waits.stands (setup_no_play b at) later.askings in
       let next = leads.walk [] (record {
         waits = answered_waits request at is.waits;
         named = answered_named request is.named;
         setups = is.setups.1;
         fresh = tt;
-        requests_are = rest;
+        requests_are = cc is.requests_are;
         teardowns = is.teardowns;
         plays = sym (ap (λ l. l ++ plays_of later.askings) none) ∙ is.plays;
       }) in
@@ -332,8 +318,8 @@ leads_back b out = record {
 }
 
 ahead_some : (ahead : List (List ℕ)) (x : List ℕ) (xs : List (List ℕ)) → [] ≡ ahead ++ (x ∷ xs) → ⊥
-ahead_some [] x xs is = let no : ⊥ = cc in no
-ahead_some (y ∷ ahead) x xs is = let no : ⊥ = cc in no
+ahead_some [] x xs is = cc
+ahead_some (y ∷ ahead) x xs is = cc
 
 -- from the beginning of a course
 pub course_walk : {b : Beginning} {out : Outlook} (course : Course) (ahead : List (List ℕ))

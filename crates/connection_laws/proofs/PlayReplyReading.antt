@@ -52,22 +52,10 @@ three a b c la lb lc = search rules
 seconds_is : (ms : ℕ)
     → seconds_text ms ≡ decimal (ms / 1000) ++ 46 ∷ (48 + ms / 100 % 10) ∷ (48 + ms / 10 % 10) ∷ (48 + ms % 10) ∷ []
 seconds_is ms =
-    let s = decimal (ms / 1000) in
     let one : decimal (ms / 100 % 10) ≡ (48 + ms / 100 % 10) ∷ [] = decimal_digit (ms / 100 % 10) (omega arith) in
     let two : decimal (ms / 10 % 10) ≡ (48 + ms / 10 % 10) ∷ [] = decimal_digit (ms / 10 % 10) (omega arith) in
     let three_ : decimal (ms % 10) ≡ (48 + ms % 10) ∷ [] = decimal_digit (ms % 10) (omega arith) in
-    ap (λ x. (((s ++ codes ".") ++ x) ++ decimal (ms / 10 % 10)) ++ decimal (ms % 10)) one
-    ∙ (ap (λ x. (((s ++ codes ".") ++ (48 + ms / 100 % 10) ∷ []) ++ x) ++ decimal (ms % 10)) two
-    ∙ (ap (λ x. (((s ++ codes ".") ++ (48 + ms / 100 % 10) ∷ []) ++ (48 + ms / 10 % 10) ∷ []) ++ x) three_
-    ∙ (append_assoc ((s ++ codes ".") ++ (48 + ms / 100 % 10) ∷ []) ((48 + ms / 10 % 10) ∷ []) ((48 + ms % 10) ∷ [])
-    ∙ (append_assoc (s ++ codes ".") ((48 + ms / 100 % 10) ∷ []) ((48 + ms / 10 % 10) ∷ (48 + ms % 10) ∷ [])
-    ∙ append_assoc s (codes ".") ((48 + ms / 100 % 10) ∷ (48 + ms / 10 % 10) ∷ (48 + ms % 10) ∷ [])))))
-
-and_three : (a b c : Bool) → a ≡ true → b ≡ true → c ≡ true → (a && b && c) ≡ true
-and_three true true true one two three_ = refl
-and_three true true false one two three_ = three_
-and_three true false c one two three_ = two
-and_three false b c one two three_ = one
+    rw (one, two, three_) (simp append_assoc)
 
 -- a first zero of more than one digit
 no_zero : (long zero_ : Bool) → (long ≡ true → zero_ ≡ true → ⊥) → not (long && zero_) ≡ true
@@ -120,9 +108,7 @@ point_there {n} {digits} point =
       ap (λ (l : List ℕ). length l) point.seconds_are,
     ) in
     no_leading_zero n point.small more (sym front ∙ eqb-true (get_or text 0 0) 48 zero_)) in
-    and_three (nat_le 4 (length text)) (get_or text (length text - 4) 0 == 46)
-    (not (nat_lt 5 (length text) && (get_or text 0 0 == 48)))
-    (le-leb 4 (length text) (omega (arith, size))) (eq-eqb (get_or text (length text - 4) 0) 46 dot) bare
+    rw (le-leb 4 (length text) (omega (arith, size)), eq-eqb (get_or text (length text - 4) 0) 46 dot, bare)
 
 -- they are read
 point_read : {n : ℕ} {digits : ThreeDigits} (text : PointText n digits) →

@@ -100,26 +100,12 @@ IsLastIn words (Stopping setup stop) stream flags kept last =
     (flags.waits ≡ true) × ((flags.tearing ≡ true) ⊎ IsAtRest words stop.paused stream setup last)
 
 -- looks that are left
-minus_none : (n : ℕ) → n - 0 ≡ n
-minus_none n = omega arith
-
-plus_none : (n : ℕ) → n + 0 ≡ n
-plus_none n = omega arith
-
-minus_both : (n a b : ℕ) → (n - a) - b ≡ n - (a + b)
-minus_both n a b = omega arith
-
 none_asked : (n : ℕ) (awaited : Awaited) → awaited ≡ Nothing → n ≡ n - look_in awaited
-none_asked n awaited rest = sym (minus_none n) ∙ ap (λ a. n - look_in a) (sym rest)
+none_asked n awaited rest = rw rest (omega arith)
 
 looks_append : (made more : List StationRequest) → looks_in (made ++ more) ≡ looks_in made + looks_in more
 looks_append [] more = omega arith
-looks_append (Asks asked outcome ∷ made) more =
-    rw (looks_append made more, add_assoc (look_in asked) (looks_in made) (looks_in more))
-
--- a new connection's first number
-sequence_begins : (word : ℕ) → (word % 65536 + 0) % 65536 ≡ word % 65536
-sequence_begins word = omega arith
+looks_append (Asks asked outcome ∷ made) more = omega (arith, looks_append made more)
 
 -- what a session's runs go by, what is kept of a play, and the last place
 record Standing : Type 0 where
@@ -172,13 +158,13 @@ module _ (words : List ℕ) where
   leads_then {a} {made} {more} one two = record {
     on = λ later follows. subst (Follows a) (sym (append_assoc made more later))
         (one.on (more ++ later) (two.on later follows));
-    looks = rw (two.looks, one.looks, minus_both a.looks_left (looks_in made) (looks_in more), looks_append made more);
+    looks = omega (arith, two.looks, one.looks, looks_append made more);
   }
 
   moves : {old new : SessionState} → new.looks_left ≡ old.looks_left → Moves old new → Leads old new []
   moves {old} looks move = record {
     on = λ later follows last is. follows last (move (kept_in later) last is);
-    looks = looks ∙ sym (minus_none old.looks_left);
+    looks = omega (arith, looks);
   }
 
   moves_none : (s : SessionState) → Moves s s
@@ -202,7 +188,7 @@ module _ (words : List ℕ) where
     on = λ later follows last is. rw (request.still.none later) (follows last (move (kept_in later) last
         (same_kept (standing old (λ k. kept_with request.outcome (kept_in later k)) last) (kept_in later) old.state
         (λ k. request.still.kept (kept_in later k)) is)));
-    looks = looks ∙ ap (λ n. old.looks_left - n) (sym (plus_none (look_in request.asked)));
+    looks = omega (arith, looks);
   }
 
   -- ---- slots and replies
@@ -254,12 +240,12 @@ module _ (words : List ℕ) where
 
   -- ---- halts
 
-  counted_done : (stream : Stream) (setup : Setup) (run : Run) (keep : ℕ) (last : Option RunPlace)
+  counted_done : {last : Option RunPlace} (stream : Stream) (setup : Setup) (run : Run) (keep : ℕ)
       → IsUnderWay stream setup run (run.sent + keep) last
       → IsFresh words (record stream {
         counts = counts_done stream.source stream.counts setup run keep (slice_get stream.films setup.film);
       }) setup last
-  counted_done stream setup run keep last way =
+  counted_done stream setup run keep way =
       let done : Option Stored → Stream = λ found. record stream {
         counts = counts_done stream.source stream.counts setup run keep found;
       } in
@@ -268,8 +254,8 @@ module _ (words : List ℕ) where
   halt_state : {next : AfterHalt} {last : Option RunPlace} (kept : ℕ → ℕ) (stop : Stopped next) (place : ℕ)
       → IsUnderWay (stream_of stop.s) stop.setup stop.play.run (stop.play.run.sent + stop.keep) last
       → IsLast (after_halt (stopping stop) place) kept last
-  halt_state {next = Done} {last = last} kept stop place way =
-      inr (counted_done (stream_of stop.s) stop.setup stop.play.run stop.keep last way)
+  halt_state {next = Done} kept stop place way =
+      inr (counted_done (stream_of stop.s) stop.setup stop.play.run stop.keep way)
   halt_state {next = Paused run} kept stop place way = (
     refl,
     inr (record { stored = way.stored; at = way.at; place = rw (way.place, left.first, left.end, left.sent) }),
@@ -279,18 +265,20 @@ module _ (words : List ℕ) where
   halt_state {next = Torn} kept stop place way = (refl, inl refl)
 
   halts : {next : AfterHalt} {placed : PlacedEntry} (stop : Stopped next) → IsHaltEntry stop.keep placed
-      → Leads (stopping stop) (after_halt (stopping stop) placed.place) (Asks (Halt stop.keep next) (Entered placed) ∷ [])
+      → Leads (stopping stop) (after_halt (stopping stop) placed.place)
+      (Asks (Halt stop.keep next) (Entered placed) ∷ [])
   halts {placed = placed} stop entry = record {
     on = λ later follows last is. follows last (halt_state (kept_in later) stop placed.place
         (subst (λ c. IsUnderWay (stream_of s) setup play.run
         (play.run.sent + kept_by c (kept_in later (total_bytes play.plan))) last) entry.command is));
-    looks = sym (minus_none s.looks_left);
+    looks = omega arith;
   }
     where
       open stop use {s, setup, play}
 
   finishes : {s new : SessionState} {halt : Outcome} → Finished s halt new → Leads s new (Asks s.awaited halt ∷ [])
-  finishes {s} (Quiet rest) = still (still_by (no_entry Unasked refl)) (none_asked s.looks_left s.awaited rest) (moves_none s)
+  finishes {s} (Quiet rest) = still (still_by (no_entry Unasked refl)) (none_asked s.looks_left s.awaited rest)
+      (moves_none s)
   finishes {s} (Ended {placed = placed} done entry) =
       let stop : Stopped Done = record { s = s; setup = done.setup; play = done.play; keep = done.keep; left = tt } in
       let L : State → Awaited → Type 0 = λ st a. Leads (record s { state = st; awaited = a })
@@ -300,7 +288,7 @@ module _ (words : List ℕ) where
   comes_leads : {old opened : Stage} {round : Round} → Stands old.session → ComesAs old round opened
       → Leads old.session opened.session (Asks (asked_by old.session round.event) round.halt ∷ [])
   comes_leads {old} stands BytesCame =
-      still (still_by (no_entry Unasked refl)) (sym (minus_none old.session.looks_left)) (moves_none old.session)
+      still (still_by (no_entry Unasked refl)) (omega arith) (moves_none old.session)
   comes_leads {old} stands (SlotCame {slot = slot} finish) =
       let to = slot_to old.session slot in
       leads_then (moves (slot_looks old.session slot) (slot_moves to))
@@ -319,7 +307,7 @@ module _ (words : List ℕ) {base : SessionState} (asked : AskedPlay base) where
   first_identity : IsFirstRun words (identity_of (source_of words) setup nothing_sent)
   first_identity = record {
     ssrc = refl;
-    sequence = sequence_begins (slice_index words 3);
+    sequence = omega arith;
     timestamp = refl;
     packets = refl;
     octets = refl;
@@ -328,10 +316,10 @@ module _ (words : List ℕ) {base : SessionState} (asked : AskedPlay base) where
   later_identity : (last : RunPlace) (counts : Counts) → last.run.identity ≡ identity_of base.source setup counts
       → IsLaterRun last (identity_of base.source setup (counts_after counts last.run last.sent))
   later_identity last counts is = record {
-    channel = sym (ap (λ (i : Identity). i.channel) is);
-    control = sym (ap (λ (i : Identity). i.control) is);
-    ssrc = sym (ap (λ (i : Identity). i.ssrc) is);
-    timestamp = sym (ap (λ (i : Identity). i.timestamp) is);
+    channel = rw is;
+    control = rw is;
+    ssrc = rw is;
+    timestamp = rw is;
     numbers = subst (λ i. GoesOn i (identity_of base.source setup (counts_after counts last.run last.sent))
         (frames_before last.run last.sent) (octets_before last.run last.sent)) (sym is)
         (run_goes_on base.source setup counts last.run last.sent);
@@ -342,10 +330,10 @@ module _ (words : List ℕ) {base : SessionState} (asked : AskedPlay base) where
   Next last counts run = (play : FilmPlay) → play.before ≡ run.sent
       → SendsNext words last (sending_of stored.film base.source setup counts run) play
 
-  new_next : (last : Option RunPlace) (run : Run) → run.sent ≡ 0 → IsFresh words (stream_of base) setup last
-      → Next last base.counts run
-  new_next None run sent fresh play before = (before ∙ sent, rw (fresh.1, fresh.0) first_identity)
-  new_next (Some last) run sent fresh play before =
+  new_next : (last : Option RunPlace) (unsent : (run : Run) × (run.sent ≡ 0)) → IsFresh words (stream_of base) setup last
+      → Next last base.counts unsent.0
+  new_next None (run, sent) fresh play before = (before ∙ sent, rw (fresh.1, fresh.0) first_identity)
+  new_next (Some last) (run, sent) fresh play before =
       inr (before ∙ sent, rw fresh.counts (later_identity last fresh.before fresh.identity))
 
   -- of the film's own run so many bytes were sent
@@ -355,11 +343,11 @@ module _ (words : List ℕ) {base : SessionState} (asked : AskedPlay base) where
       one_film base.films setup.film way.stored (λ s. last ≡ Some (run_place
       (sending_of s.film base.source setup base.counts run) sent)) way.at way.place stored at
 
-  rest_next : (paused : Option Run) (last : Option RunPlace) (run : Run) → run.sent ≡ 0
+  rest_next : (paused : Option Run) (last : Option RunPlace) (unsent : (run : Run) × (run.sent ≡ 0))
       → IsAtRest words paused (stream_of base) setup last
-      → Next last (counts_before stored.film base.source setup base.counts paused) run
-  rest_next None last run sent rest play before = new_next last run sent rest play before
-  rest_next (Some paused) last run sent rest play before =
+      → Next last (counts_before stored.film base.source setup base.counts paused) unsent.0
+  rest_next None last unsent rest play before = new_next last unsent rest play before
+  rest_next (Some paused) last (run, sent) rest play before =
       let sending : FramedRun = sending_of stored.film base.source setup base.counts paused in
       rw (own_place rest) (inr (before ∙ sent, later_identity (run_place sending paused.sent) base.counts refl))
 
@@ -374,13 +362,13 @@ module _ (words : List ℕ) {base : SessionState} (asked : AskedPlay base) where
   next_run last rest (inl resumed) =
       rw resumed.counts_are (resumed_next last prepared.run
       (subst (λ p. IsAtRest words p (stream_of base) setup last) resumed.paused_is rest))
-  next_run last rest (inr begun) = rw begun.counts_are (rest_next paused last prepared.run begun.none_sent rest)
+  next_run last rest (inr begun) = rw begun.counts_are (rest_next paused last (prepared.run, begun.none_sent) rest)
 
   -- no TEARDOWN was answered
   at_rest : (last : Option RunPlace) → base.torn ≡ false
       → ((base.tearing ≡ true) × (base.torn ≡ true)) ⊎ IsAtRest words paused (stream_of base) setup last
       → IsAtRest words paused (stream_of base) setup last
-  at_rest last linked (inl torn) = absurd (true≢false (sym torn.1 ∙ linked))
+  at_rest last linked (inl torn) = cc (torn.1, linked)
   at_rest last linked (inr rest) = rest
 
   -- it is admitted
@@ -405,19 +393,22 @@ module _ (words : List ℕ) {base : SessionState} (asked : AskedPlay base) where
             }),
           ),
         );
-    looks = sym (minus_none base.looks_left);
+    looks = omega arith;
   }
 
 module _ (words : List ℕ) where
   -- ---- requests
 
   -- a reply waits, and else all is as before
-  waiting : {s : SessionState} → Hearing s → (tearing : Bool) (state : State) (kept : ℕ → ℕ) (last : Option RunPlace)
+  abbrev WaitsIn : SessionState → Bool → State → Type 0
+  WaitsIn s tearing state = (kept : ℕ → ℕ) (last : Option RunPlace)
       → IsLastIn words state (stream_of s) (flags_of s) kept last → IsLastIn words state (stream_of s)
       (record { waits = true; tearing = tearing; torn = s.torn }) kept last
-  waiting h tearing (Ready setup paused) kept last (inl torn) = absurd (true≢false (sym torn.1 ∙ h.linked))
+
+  waiting : {s : SessionState} → Hearing s → (tearing : Bool) (state : State) → WaitsIn s tearing state
+  waiting h tearing (Ready setup paused) kept last (inl torn) = cc (torn.1, h.linked)
   waiting h tearing (Ready setup paused) kept last (inr rest) = inr rest
-  waiting h tearing (Stopping setup stop) kept last is = absurd (true≢false (sym is.0 ∙ h.replied))
+  waiting h tearing (Stopping setup stop) kept last is = cc (is.0, h.replied)
   waiting h tearing _ kept last is = is
 
   request_leads : {old asking new : SessionState} {outcome : Outcome} → RequestAnswer old asking outcome new
@@ -430,7 +421,7 @@ module _ (words : List ℕ) where
       (λ kept last was. rw was.0 (inr (was.1, was.2)))
   request_leads (Admission play entry answered) h = admitted words play h.linked entry
   request_leads (Refusal {base = base} play entry) h =
-      still words (still_by (refused_still entry refl)) (sym (minus_none base.looks_left))
+      still words (still_by (refused_still entry refl)) (omega arith)
       (waiting h base.tearing (Ready play.setup play.paused))
   request_leads (HaltMade {base = base} halt entry) h =
       let stop : Stopped halt.next = record {
@@ -446,7 +437,8 @@ module _ (words : List ℕ) where
   request_leads (JournalFull {old = old} looks) h =
       still words (still_by (no_entry _ refl)) looks (waiting h old.tearing old.state)
   request_leads (OfferAnswer {old = old}) h =
-      still words (still_by (no_entry _ refl)) (sym (minus_none old.looks_left)) (waiting h old.tearing old.state)
+      still words (still_by (no_entry _ refl)) (omega arith)
+      (waiting h old.tearing old.state)
 
   answered_leads : {old new : Stage} (request : AnsweredRequest old new) → Stands old.session
       → Leads words old.session new.session (asking_of request ∷ [])

@@ -76,8 +76,10 @@ logs_kept = record {
       let os = map outcome_of xs in
       let ps = map outcome_of ys in
       subst (λ all. Logs a all c) (sym (map-append outcome_of xs ys)) (
-        rw (two.0, one.0, joins_parts receipts_in (record { one = receipt_in; none = refl; more = λ x xs. refl }) os ps, append_assoc a.receipts (receipts_in os) (receipts_in ps)),
-        rw (two.1, one.1, joins_parts offers_in (record { one = offer_in; none = refl; more = λ x xs. refl }) os ps, append_assoc a.offers (offers_in os) (offers_in ps)),
+        rw (two.0, one.0, joins_parts receipts_in (record { one = receipt_in; none = refl; more = λ x xs. refl }) os ps)
+            (rw (append_assoc a.receipts (receipts_in os) (receipts_in ps))),
+        rw (two.1, one.1, joins_parts offers_in (record { one = offer_in; none = refl; more = λ x xs. refl }) os ps)
+            (rw (append_assoc a.offers (offers_in os) (offers_in ps))),
       );
   request = λ old new message outcome heard. logs_answer (request_answer heard);
   reply = λ s. logs_none s s refl;

@@ -28,6 +28,7 @@ use Rattle.rtsp_text.specs.Fields.{header_value}
 use Rattle.rtsp_replies.specs.Messages.{IsMessage}
 use Rattle.rtsp_client.specs.Replies.{IsAnswer, play_range, play_start, session_id, setup_session}
 use Rattle.connection_laws.specs.PlayReplies.{IsPlayRead}
+use Rattle.connection_laws.proofs.Lists.{Each}
 use Rattle.connection_laws.proofs.PlayReplyReading.{IsReplyRead, PlayNumbers, StreamInfo, play_read, read_reply}
 
 -- a text of printable bytes other than the space
@@ -64,8 +65,7 @@ printed_decimal n small =
 
 -- parts, one after another
 abbrev pub AreAllPrinted : List (List ℕ) → Type 0
-AreAllPrinted [] = ⊤
-AreAllPrinted (part ∷ parts) = IsPrinted part × AreAllPrinted parts
+AreAllPrinted = Each IsPrinted
 
 pub printed_parts : (parts : List (List ℕ)) → AreAllPrinted parts → IsPrinted (joined_parts parts)
 printed_parts [] are = refl
@@ -129,9 +129,9 @@ with_number number fields small plain =
     All-cons IsPlain (field (codes "CSeq") (decimal number)) fields
     (plain_field (codes "CSeq") refl (printed_decimal number small)) plain
 
-one_more : {value : List ℕ} (name : List ℕ) (fields : List Field) → IsPlain (field name value) → All IsPlain fields
-    → All IsPlain (field name value ∷ fields)
-one_more {value} name fields plain rest = All-cons IsPlain (field name value) fields plain rest
+plain_all : (fields : List Field) → Each IsPlain fields → All IsPlain fields
+plain_all [] are = All-nil IsPlain
+plain_all (first ∷ fields) are = All-cons IsPlain first fields are.0 (plain_all fields are.1)
 
 -- ---- a session's id
 
@@ -161,17 +161,16 @@ pub setup_read : {message : List ℕ} (ssrc : ℕ) (id : List ℕ) → IsMessage
     → message ≡ setup_text 1 0 1 ssrc id → IsSetupRead message
 unfolding value_named
 setup_read {message} ssrc id whole printed is =
-    let named = field (codes "Session") id ∷ [] in
-    let fields = field (codes "Transport") (transport_value 0 1 ssrc) ∷ named in
+    let fields =
+    field (codes "Transport") (transport_value 0 1 ssrc) ∷ field (codes "Session") id ∷ [] in
     let transport : IsPrinted (transport_value 0 1 ssrc) =
     printed_parts (codes "RTP/AVP/TCP;unicast;interleaved=" ∷ decimal 0 ∷ codes "-" ∷ decimal 1 ∷ codes ";ssrc="
     ∷ encode_lower (to_be_bytes w32 ssrc) ∷ []) (
       refl,
       (printed_decimal 0 (omega arith), (refl, (printed_decimal 1 (omega arith), (refl, (printed_w32 ssrc, tt))))),
     ) in
-    let plain : All IsPlain fields =
-    one_more (codes "Transport") named (plain_field (codes "Transport") refl transport)
-    (one_more (codes "Session") [] (plain_field (codes "Session") refl printed) (All-nil IsPlain)) in
+    let plain = plain_all fields
+    (plain_field (codes "Transport") refl transport, (plain_field (codes "Session") refl printed, tt)) in
     let read : IsReplyRead message 1 fields =
     read_reply 1 fields (omega arith) whole.size (with_number 1 fields (omega arith) plain) is in
     record { answer = read.answer; named = session_named message (read.values (codes "Session")) printed }
@@ -182,8 +181,7 @@ pub teardown_read : {message : List ℕ} (id : List ℕ) → IsMessage message �
     → IsAnswer message 3 200
 teardown_read {message} id whole printed is =
     let fields = field (codes "Session") id ∷ [] in
-    let plain : All IsPlain fields =
-    one_more (codes "Session") [] (plain_field (codes "Session") refl printed) (All-nil IsPlain) in
+    let plain = plain_all fields (plain_field (codes "Session") refl printed, tt) in
     (read_reply 3 fields (omega arith) whole.size (with_number 3 fields (omega arith) plain) is).answer
 
 -- ---- PLAY
@@ -219,7 +217,6 @@ play_plain : (p : PlayText) → All IsPlain (play_fields p.id 0 p.end_ms p.autho
     ++ field (codes "x-Start") (decimal p.slots) ∷ [])
 play_plain p =
     let few = p.few in
-    let start = field (codes "x-Start") (decimal p.slots) ∷ [] in
     let ranges = codes "npt=" ∷ seconds_text 0 ∷ codes "-" ∷ seconds_text p.end_ms ∷ [] in
     let range : IsPrinted (joined_parts ranges) = printed_parts ranges
     (refl, (printed_seconds 0 (omega arith), (refl, (printed_seconds p.end_ms p.end_fits, tt)))) in
@@ -233,21 +230,28 @@ play_plain p =
           refl,
           (
             p.name_prints,
-            (refl, (printed_decimal p.number p.number_fits, (refl, (printed_decimal p.time p.time_fits, tt)))),
+            (
+              refl,
+              (
+                printed_decimal p.number p.number_fits,
+                (refl, (printed_decimal p.time p.time_fits, tt)),
+              ),
+            ),
           ),
         ),
       ),
     ) in
-    let with_start : All IsPlain start =
-    one_more (codes "x-Start") []
-    (plain_field (codes "x-Start") refl (printed_decimal p.slots (omega (arith, few)))) (All-nil IsPlain) in
-    let with_info = field (codes "RTP-Info") (joined_parts parts) ∷ start in
-    let info_plain : All IsPlain with_info =
-    one_more (codes "RTP-Info") start (plain_field (codes "RTP-Info") refl info) with_start in
-    let with_range = field (codes "Range") (joined_parts ranges) ∷ with_info in
-    let range_plain : All IsPlain with_range =
-    one_more (codes "Range") with_info (plain_field (codes "Range") refl range) info_plain in
-    one_more (codes "Session") with_range (plain_field (codes "Session") refl p.id_prints) range_plain
+    plain_all (play_fields p.id 0 p.end_ms p.authority p.name p.number p.time
+    ++ field (codes "x-Start") (decimal p.slots) ∷ []) (
+      plain_field (codes "Session") refl p.id_prints,
+      (
+        plain_field (codes "Range") refl range,
+        (
+          plain_field (codes "RTP-Info") refl info,
+          (plain_field (codes "x-Start") refl (printed_decimal p.slots (omega (arith, few))), tt),
+        ),
+      ),
+    )
 
 pub play_answer : {message : List ℕ} (p : PlayText) → IsMessage message → message ≡ text_of p
     → IsPlayAnswer p.end_ms message

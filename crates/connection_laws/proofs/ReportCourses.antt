@@ -53,11 +53,11 @@ course_of films settings words doings report done =
       record { films_are = refl; settings_are = refl; words_are = refl; rounds_are = refl },
     )
 
-pub served_done : (films : List Stored) (settings : Settings) (words : List ℕ)
-    (old_told new_told : Option (List IoEvent)) (old new : SeatState) (report : ConnReport)
-    → (served : HasServedFrom (new_session_state films settings words) old_told new_told old new report)
+pub served_done : {films : List Stored} {settings : Settings} {words : List ℕ}
+    {old_told new_told : Option (List IoEvent)} {old new : SeatState} {report : ConnReport}
+    (served : HasServedFrom (new_session_state films settings words) old_told new_told old new report)
     → HasDone films settings words (activity_of films settings words old_told new_told old new report served) report
-served_done films settings words old_told new_told old new report served = record {
+served_done served = record {
   mid = served.course.mid;
   runs = served.course.runs;
   last = served.ended.stage;

@@ -23,7 +23,8 @@ use Rattle.session_records.specs.declared.notes.OfferNote.{OfferNote}
 use Rattle.session_laws.proofs.RunLemmas.{RunsAs, Replies, SetsUp, AsksPlay, Stops, AsksLook, AsksOffer, runs_as}
 use Rattle.session_laws.proofs.RunLemmas.{AskedHalt, AskedPlay}
 use Rattle.connection_laws.specs.LookLimits.{look_in}
-use Rattle.conn.specs.InputSteps.{HasHeard, IsAskAnswered, IsPlayAnswered, Outcome, Unasked, Entered, WasFull, Offered, entry_in}
+use Rattle.conn.specs.InputSteps.{HasHeard, IsAskAnswered, IsPlayAnswered, Outcome, Unasked, Entered, WasFull, Offered}
+use Rattle.conn.specs.InputSteps.{entry_in}
 use Rattle.conn.proofs.StationAnswers.{AnswersAs, NoneAsked, PlayAdmitted, PlayOverflowed, PlayFull, PlayHalted}
 use Rattle.conn.proofs.StationAnswers.{LookMade, LookFull, OfferMade, IsPlayEntry, IsHaltEntry, answers_as}
 use Rattle.film_frames.specs.FramedRuns.{run_pieces}
@@ -133,7 +134,8 @@ answer_of {old} {new = new} {outcome = o} (Replies text tearing ask_is is) =
     rw (ask_is, is) (own_answer old text tearing o new)
 answer_of {old} {new = new} {outcome = o} (SetsUp text setup init ask_is is) =
     rw (ask_is, is) (subst (λ st. Answers o new (record old { state = st }) AskReply
-    (record old { text = text; waits = true; state = Ready setup None })) (sym init) (setup_answer old text setup o new))
+    (record old { text = text; waits = true; state = Ready setup None })) (sym init)
+    (setup_answer old text setup o new))
 answer_of {old} {new = new} {outcome = o} (AsksPlay play ask_is is) =
     rw (ask_is, is) (subst (λ st. Answers o new (record old { state = st }) (AskPlay play.prepared.plan)
     (record old { state = st; awaited = Play play.prepared; text = play.text })) (sym play.ready)
@@ -222,7 +224,7 @@ pub data TurnsAs (old : SessionState) (asked : Awaited) (outcome : Outcome) (new
 
 -- an answer that is no entry
 pub no_entry : {asked : Awaited} (outcome : Outcome) → entry_in outcome ≡ [] → IsStill asked outcome
-no_entry (Entered placed) none = absurd (let no : ⊥ = cc in no)
+no_entry (Entered placed) none = cc
 no_entry _ none = record { none = λ later. refl; kept = λ later. refl; untold = λ made. refl }
 
 -- a play that isn't admitted
@@ -251,7 +253,7 @@ looked_still {placed = placed} slot command = record {
 -- a halt's answer
 stopped_sends : (setup : Setup) (play : Played) (next : AfterHalt) → is_answered next ≡ true
     → sends_in (state_once_halted setup play next) ≡ Ending play.pacer
-stopped_sends setup play Done told = absurd (let no : ⊥ = cc in no)
+stopped_sends setup play Done told = cc
 stopped_sends setup play _ told = refl
 
 -- a play that begins is this one

@@ -35,9 +35,6 @@ use Rattle.connection_laws.proofs.FirstPlays.{planned_whole}
 use Rattle.connection_laws.proofs.CourseInduction.{AnsweredRequest}
 use Rattle.conn.specs.InputSteps.{Stage}
 
-same_names : (old new : SessionState) → new.films ≡ old.films → new.id ≡ old.id → names_in new ≡ names_in old
-same_names old new films id = ap₂ (λ (f : List Stored) (i : List ℕ). (f, i)) films id
-
 -- ---- SETUP
 
 -- it is refused, or answered with the channels 0 and 1
@@ -128,7 +125,7 @@ teardown_head b =
     }
 
 has_one : {setup : Setup} (state : State) → setup_in state ≡ Some setup → has_session_in state ≡ true
-has_one Init is = absurd (let no : ⊥ = cc in no)
+has_one Init is = cc
 has_one _ is = refl
 
 pub setup_replied : (b : Beginning) {old new : Stage} (request : AnsweredRequest old new)
@@ -217,4 +214,7 @@ teardown_replied b {old} request is named =
       setup_is = named.setup_is;
       names = named.names;
     }) in
-    record { text = told.text; same = record { names = same_names old.session heard.asking told.films told.id; setup = told.setup } }
+    record {
+      text = told.text;
+      same = record { names = rw (told.films, told.id); setup = told.setup };
+    }

@@ -62,16 +62,14 @@ sent_first : {play : FilmPlay} {now slot : ℕ} {placed : PlacedText} → play.b
     → IsSentAt now (play ∷ []) slot placed → placed ≡ placed_text 0 placed.text
 sent_first {play} {now} {slot} {placed} before late sent =
     let none = none_yet slot play late in
-    let least : placed.place ≤ 0 = sent.next.least 0 (first_boundary play before) (omega (arith, none)) in
-    let here : placed.place ≡ 0 = omega (arith, least) in
-    ap (λ n. record placed { place = n }) here
+    let least = sent.next.least 0 (first_boundary play before) (omega (arith, none)) in
+    let here : placed.place ≡ 0 = omega (arith, least) in ap (λ n. record placed { place = n }) here
 
 never_unsent : {slot : ℕ} (play : FilmPlay) (now : ℕ) → play.before ≡ 0 → slot < play.start
     → IsUnsentAt now (play ∷ []) slot → ⊥
 never_unsent {slot} play now before late unsent =
     let none = none_yet slot play late in
-    let below : due_by now (play ∷ []) < 0 = unsent 0 (first_boundary play before) (omega (arith, none)) in
-    omega (arith, below)
+    omega (arith, unsent 0 (first_boundary play before) (omega (arith, none)))
 
 -- replies to requests that were processed once the film was due
 record AreOnceDue (play : FilmPlay) (now : ℕ) (slots : List ℕ) (texts : List PlacedText) : Type 0 where
@@ -85,11 +83,9 @@ after_film : {play : FilmPlay} {now : ℕ} (slots : List ℕ) (texts : List Plac
 after_film slots [] replies = tt
 after_film [] (placed ∷ texts) replies = absurd replies.sent
 after_film {play} {now} (slot ∷ slots) (placed ∷ texts) replies =
-    let after : due_by slot (play ∷ []) ≤ placed.place = replies.sent.0.next.after in
-    let all : due_of slot play ≡ play.keep = replies.due.0 in
     let rest : AreOnceDue play now slots texts =
     record { due = replies.due.1; sent = replies.sent.1; messages = replies.messages.1 } in
-    (omega (arith, after, all), replies.messages.0, after_film slots texts rest)
+    (omega (arith, replies.sent.0.next.after, replies.due.0), replies.messages.0, after_film slots texts rest)
 
 -- two first replies, and the others after the film
 pub record AreTwoFirst (total : ℕ) (texts : List PlacedText) : Type 0 where
@@ -129,30 +125,12 @@ two_first {play} {now} {total} (one ∷ two ∷ slots) (first ∷ second ∷ lat
       after = subst (λ n. AreAfter n later) (sym replies.total_is) (after_film slots later rest);
     }
 
-abbrev pub beginning_of : {wish : Wish} {stored : Stored} {course : Course} → IsAskedFor wish stored course → Beginning
-beginning_of {wish} {stored} {course} asked = record {
-  wish = wish;
-  start = (begin_of course).session;
-  session = asked.session;
-  wished = asked.wished;
-  port = asked.port;
-  session_is = asked.session_is;
-  slot_units = asked.slot_units;
-}
-
--- the film of the wished name
-asked_film : {wish : Wish} {stored : Stored} {course : Course} (asked : IsAskedFor wish stored course)
-    (film : WishedFilm (beginning_of asked)) → film.stored ≡ stored
-asked_film asked film = asked.named film.number film.stored film.at film.name_is
-
 -- TEARDOWN asks for no play
 pub teardown_no_play : (b : Beginning) {message : List ℕ} → message ≡ teardown_text b.wish b.session → IsNoPlay message
 teardown_no_play b {message} is = λ request read method.
     let asked = teardown-asked b.wish b.session b.wished b.port b.session_is in
-    let R : List ℕ → Type 0 = λ m.
-    IsRequest m (codes "TEARDOWN") (film_url b.wish) 3 (request_head (teardown_parts b.wish b.session)) [] in
-    let same = request_once (subst R (sym is) asked.read) read in
-    let clash : 84 ≡ 80 = ap (λ name. get_or name 0 0) (same.method_is ∙ method) in omega (arith, clash)
+    let same = request_once (rw (← is) at asked.read) read in
+    omega (arith, ap (λ name. get_or name 0 0) (same.method_is ∙ method))
 
 -- the requests of a client, and those of them that a connection processed
 pub record AreAsked (b : Beginning) (requests : List (List ℕ)) : Type 0 where
@@ -166,89 +144,16 @@ all_texts b = setup_text b.wish ∷ play_text b.wish b.session ∷ teardown_text
 last_teardowns : (b : Beginning) (last more : List (List ℕ)) → teardown_text b.wish b.session ∷ [] ≡ last ++ more
     → AreTeardowns b last
 last_teardowns b [] more is = tt
-last_teardowns b (one ∷ []) more is = let same : teardown_text b.wish b.session ≡ one = cc in (sym same, tt)
-last_teardowns b (one ∷ two ∷ last) more is = absurd (let no : ⊥ = cc in no)
+last_teardowns b (one ∷ []) more is = (cc, tt)
+last_teardowns b (one ∷ two ∷ last) more is = cc
 
 requests_asked : (b : Beginning) (requests more : List (List ℕ)) → all_texts b ≡ requests ++ more
     → (AreNoPlays requests → ⊥) → AreAsked b requests
 requests_asked b [] more is some = absurd (some tt)
 requests_asked b (one ∷ []) more is some =
-    let same : setup_text b.wish ≡ one = cc in
-    absurd (some (setup_no_play b (sym same), tt))
+    absurd (some (setup_no_play b (cc), tt))
 requests_asked b (one ∷ two ∷ last) more is some =
-    let first : setup_text b.wish ≡ one = cc in
-    let second : play_text b.wish b.session ≡ two = cc in
-    let rest : teardown_text b.wish b.session ∷ [] ≡ last ++ more = cc in
-    record {
-      last = last;
-      requests_are = ap (λ t. t ∷ two ∷ last) (sym first) ∙ ap (λ t. setup_text b.wish ∷ t ∷ last) (sym second);
-      teardowns = last_teardowns b last more rest;
-    }
-
-first_waits : {wish : Wish} {stored : Stored} {course : Course} (asked : IsAskedFor wish stored course)
-    → IsWaiting (beginning_of asked) (begin_of course).session
-first_waits {course = course} asked = record {
-  stands = first_stands course.films course.settings course.words;
-  still = record { ground = refl; unbegun = tt };
-}
-
-pub requests_of : {wish : Wish} {stored : Stored} {course : Course} (asked : IsAskedFor wish stored course)
-    → AreAsked (beginning_of asked) (rounds_requests course.rounds)
-requests_of {wish} {stored} {course} asked =
-    let b = beginning_of asked in
-    let session = asked.session in
-    let found : AreFound (all_texts b) = (
-      (setup-asked wish asked.wished asked.port).found,
-      (
-        (play-asked wish session asked.wished asked.port asked.session_is).found,
-        ((teardown-asked wish session asked.wished asked.port asked.session_is).found, tt),
-      ),
-    ) in
-    let all : setup_text wish ++ (play_text wish session ++ teardown_text wish session) ≡ joined (all_texts b) =
-    ap (λ l. setup_text wish ++ (play_text wish session ++ l)) (sym (append-nil (teardown_text wish session))) in
-    let heard = subst (IsPrefixOf (rounds_input course.rounds)) all asked.heard in
-    let its = requests_front course (all_texts b) found heard in
-    requests_asked b (rounds_requests course.rounds) its.0 its.1 (λ none.
-    let empty = none_played course none in
-    let clash : [] ≡ asked.play ∷ asked.others = sym empty ∙ asked.plays in
-    let no : ⊥ = cc in no)
-
-abbrev pub outlook_of : {wish : Wish} {stored : Stored} {course : Course} (asked : IsAskedFor wish stored course)
-    → AreAsked (beginning_of asked) (rounds_requests course.rounds) → Outlook
-outlook_of asked its = record {
-  last = its.last;
-  last_are = each_weaker (IsTeardownOf (beginning_of asked)) IsNoPlay
-      (λ message is. teardown_no_play (beginning_of asked) is) its.last its.teardowns;
-  play = asked.play;
-  others = asked.others;
-}
-
-pub one_play : {wish : Wish} {stored : Stored} {course : Course} (asked : IsAskedFor wish stored course)
-    → IsPlayedWhole (beginning_of asked) (outlook_of asked (requests_of asked)) (begin_of course).session 1
-    (piece_of course)
-one_play {wish} {stored} {course} asked =
-    course_walk course (setup_text wish ∷ []) (record {
-      waits = first_waits asked;
-      named = begins_named course.films course.settings course.words asked.films;
-      setups = (refl, tt);
-      fresh = refl;
-      requests_are = (requests_of asked).requests_are;
-      teardowns = (requests_of asked).teardowns;
-      plays = asked.plays;
-    })
-
-whole_play : {wish : Wish} {stored : Stored} {course : Course} (asked : IsAskedFor wish stored course)
-    (wished : IsWished (beginning_of asked) asked.play) → IsWholePlay wish stored wished.identity asked.play
-whole_play {wish} {stored} {course} asked wished =
-    let same = asked_film asked wished.film in
-    subst (λ s. IsWholePlay wish s wished.identity asked.play) same (record {
-      media = wished.media;
-      control = wished.control;
-      pieces = wished.pieces;
-      before = wished.before;
-      sending = wished.sending;
-      keep = asked.keep;
-    })
+    record { last = last; requests_are = cc; teardowns = last_teardowns b last more (cc) }
 
 whole_total : {wish : Wish} {stored : Stored} {identity : Identity} {play : FilmPlay}
     → IsWholePlay wish stored identity play → length (framed_bytes (film_blocks stored identity)) ≡ play.keep
@@ -257,75 +162,131 @@ whole_total {wish} {stored} {identity} {play} whole =
     whole.sending in
     omega (arith, keeps.bytes, ap sum (rest_all stored), run_total stored.film identity, whole.keep)
 
-pub asked_played : {wish : Wish} {stored : Stored} {course : Course} (asked : IsAskedFor wish stored course)
-    → (played : HasPlayedWhole wish stored course) × (played.play ≡ asked.play)
-asked_played {wish} {stored} {course} asked =
-    let played = one_play asked in
-    let one = played.one in
-    let play = asked.play in
-    let plays : course_plays course ≡ play ∷ [] = asked.plays ∙ ap (λ l. play ∷ l) one.alone in
-    let whole = whole_play asked one.wished in
-    let now = greatest_slot course.rounds in
-    let slots = slots_from 0 course.rounds in
-    let S : List FilmPlay → Type 0 = λ ps. AreSentAt now ps slots (course_texts course) in
-    let sent = subst S plays (replies_sent course) in
-    let ordered = replies_in_order course in
-    let total = length (framed_bytes (film_blocks stored one.wished.identity)) in
-    let replies : AreReplies play now total slots (course_texts course) = record {
-      begins = one.wished.before;
-      total_is = whole_total whole;
-      before = one.before;
-      due = asked.due;
-      sent = sent;
-      messages = each_front IsMessage (map text_of (course_texts course)) (waiting_reply course.last.session)
-          (subst AreWhole (sym ordered) played.whole);
-    } in
-    let two = two_first slots (course_texts course) replies in
-    let messages = subst AreWhole (ap (λ ts. map text_of ts) two.texts_are) replies.messages in (
-      record {
-        identity = one.wished.identity;
-        play = play;
-        plays = plays;
-        whole = whole;
-        setup = two.first;
-        played = two.second;
-        later = two.later;
-        texts = two.texts_are;
-        setup_is = messages.0;
-        played_is = messages.1.0;
-        after = two.after;
-      },
-      refl,
-    )
-
--- its source is the connection's random word
-pub asked_source : {wish : Wish} {stored : Stored} {course : Course} (asked : IsAskedFor wish stored course)
-    → (asked_played asked).0.identity.ssrc ≡ slice_index course.words 2
-unfolding asked_played
-asked_source asked = (one_play asked).one.wished.ssrc
-
 answers_front : (front rest : List (List ℕ)) → AreAnswers (front ++ rest) → AreAnswers front
 answers_front [] rest are = tt
 answers_front (message ∷ front) rest are = (are.0, answers_front front rest are.1)
 
-module _ {wish : Wish} {stored : Stored} {course : Course} where
-  pub good_replies : (asked : IsAskedFor wish stored course) → asked.play.start ≤ 2 ^ 62 + 1
-      → (played : HasPlayedWhole wish stored course)
+module _ {wish : Wish} {stored : Stored} {course : Course} (asked : IsAskedFor wish stored course) where
+  abbrev pub beginning_of : Beginning
+  beginning_of = record {
+    wish = wish;
+    start = (begin_of course).session;
+    session = asked.session;
+    wished = asked.wished;
+    port = asked.port;
+    session_is = asked.session_is;
+    slot_units = asked.slot_units;
+  }
+
+  -- the film of the wished name
+  asked_film : (film : WishedFilm beginning_of) → film.stored ≡ stored
+  asked_film film = asked.named film.number film.stored film.at film.name_is
+
+  first_waits : IsWaiting beginning_of (begin_of course).session
+  first_waits = record {
+    stands = first_stands course.films course.settings course.words;
+    still = record { ground = refl; unbegun = tt };
+  }
+
+  pub requests_of : AreAsked beginning_of (rounds_requests course.rounds)
+  requests_of =
+      let session = asked.session in
+      let found : AreFound (all_texts beginning_of) = (
+        (setup-asked wish asked.wished asked.port).found,
+        (
+          (play-asked wish session asked.wished asked.port asked.session_is).found,
+          ((teardown-asked wish session asked.wished asked.port asked.session_is).found, tt),
+        ),
+      ) in
+      let heard : IsPrefixOf (rounds_input course.rounds) (joined (all_texts beginning_of)) =
+      rw (append-nil (teardown_text wish session)) asked.heard in
+      let its = requests_front course (all_texts beginning_of) found heard in
+      requests_asked beginning_of (rounds_requests course.rounds) its.0 its.1
+      (λ none. cc (none_played course none, asked.plays))
+
+  abbrev pub outlook_of : AreAsked beginning_of (rounds_requests course.rounds) → Outlook
+  outlook_of its = record {
+    last = its.last;
+    last_are = each_weaker (IsTeardownOf beginning_of) IsNoPlay
+        (λ message is. teardown_no_play beginning_of is) its.last its.teardowns;
+    play = asked.play;
+    others = asked.others;
+  }
+
+  pub one_play : IsPlayedWhole beginning_of (outlook_of requests_of) (begin_of course).session 1 (piece_of course)
+  one_play =
+      course_walk course (setup_text wish ∷ []) (record {
+        waits = first_waits;
+        named = begins_named course.films course.settings course.words asked.films;
+        setups = (refl, tt);
+        fresh = refl;
+        requests_are = requests_of.requests_are;
+        teardowns = requests_of.teardowns;
+        plays = asked.plays;
+      })
+
+  whole_play : (wished : IsWished beginning_of asked.play) → IsWholePlay wish stored wished.identity asked.play
+  whole_play wished =
+      subst (λ s. IsWholePlay wish s wished.identity asked.play) (asked_film wished.film) (record {
+        media = wished.media;
+        control = wished.control;
+        pieces = wished.pieces;
+        before = wished.before;
+        sending = wished.sending;
+        keep = asked.keep;
+      })
+
+  pub asked_played : (played : HasPlayedWhole wish stored course) × (played.play ≡ asked.play)
+  asked_played =
+      let played = one_play in
+      let one = played.one in
+      let play = asked.play in
+      let plays : course_plays course ≡ play ∷ [] = asked.plays ∙ ap (λ l. play ∷ l) one.alone in
+      let whole = whole_play one.wished in
+      let slots = slots_from 0 course.rounds in
+      let texts = course_texts course in
+      let total = length (framed_bytes (film_blocks stored one.wished.identity)) in
+      let replies : AreReplies play (greatest_slot course.rounds) total slots texts = record {
+        begins = one.wished.before;
+        total_is = whole_total whole;
+        before = one.before;
+        due = asked.due;
+        sent = rw (← plays) (replies_sent course);
+        messages = each_front IsMessage (map text_of texts) (waiting_reply course.last.session)
+            (rw (replies_in_order course) played.whole);
+      } in
+      let two = two_first slots texts replies in
+      let messages = rw two.texts_are at replies.messages in (
+        record {
+          identity = one.wished.identity;
+          play = play;
+          plays = plays;
+          whole = whole;
+          setup = two.first;
+          played = two.second;
+          later = two.later;
+          texts = two.texts_are;
+          setup_is = messages.0;
+          played_is = messages.1.0;
+          after = two.after;
+        },
+        refl,
+      )
+
+  -- its source is the connection's random word
+  pub asked_source : asked_played.0.identity.ssrc ≡ slice_index course.words 2
+  unfolding asked_played
+  asked_source = one_play.one.wished.ssrc
+
+  pub good_replies : asked.play.start ≤ 2 ^ 62 + 1 → (played : HasPlayedWhole wish stored course)
       → AreGoodReplies stored.film played.setup played.played (map text_of played.later)
-  good_replies asked few played =
+  good_replies few played =
       let waiting = waiting_reply course.last.session in
-      let b = beginning_of asked in
-      let read : AreRead b 1 (course_replies course) = (one_play asked).read few in
-      let ordered : map text_of (course_texts course) ++ waiting ≡ course_replies course =
-      replies_in_order course in
-      let texts : map text_of (course_texts course) ++ waiting
-      ≡ played.setup ∷ played.played ∷ (map text_of played.later ++ waiting) =
-      ap (λ ts. map text_of ts ++ waiting) played.texts in
-      let R : List (List ℕ) → Type 0 = λ rs. AreRead b 1 rs in
-      let its = subst R (sym ordered ∙ texts) read in
-      let answer : IsFilmAnswer b played.played = its.1.0 in
-      let play = subst (λ (s : Stored). IsPlayAnswer (length_ms s.film) played.played)
-      (asked_film asked answer.film) answer.answer in
+      let texts : course_replies course ≡ played.setup ∷ played.played ∷ (map text_of played.later ++ waiting) =
+      rw (← (replies_in_order course), played.texts) in
+      let its = rw texts at (one_play.read few) in
+      let answer : IsFilmAnswer beginning_of played.played = its.1.0 in
+      let play = rw (asked_film answer.film) at answer.answer in
       record {
         setup_is = its.0.answer;
         session = its.0.named;
@@ -336,19 +297,16 @@ module _ {wish : Wish} {stored : Stored} {course : Course} where
       }
 
   -- a film that was asked for is served to a client, whose clauses on frames these are
-  pub asked_served : (asked : IsAskedFor wish stored course) → AreInRange course asked.play → FilmClauses
-      → IsServed wish stored course
-  asked_served asked range clauses =
-      let played = (asked_played asked).0 in
-      record {
-        played = played;
-        small = let small = range.ssrc in omega (arith, small, asked_source asked);
-        replies = good_replies asked range.start played;
-        clauses = clauses;
-      }
+  pub asked_served : AreInRange course asked.play → FilmClauses → IsServed wish stored course
+  asked_served range clauses = record {
+    played = asked_played.0;
+    small = let small = range.ssrc in omega (arith, small, asked_source);
+    replies = good_replies range.start asked_played.0;
+    clauses = clauses;
+  }
 
   -- its play is the one that was admitted
-  pub asked_play : (asked : IsAskedFor wish stored course) (range : AreInRange course asked.play)
-      (clauses : FilmClauses) → asked.play ≡ (asked_served asked range clauses).played.play
+  pub asked_play : (range : AreInRange course asked.play) (clauses : FilmClauses)
+      → asked.play ≡ (asked_served range clauses).played.play
   unfolding asked_served
-  asked_play asked range clauses = sym (asked_played asked).1
+  asked_play range clauses = sym asked_played.1

@@ -21,34 +21,34 @@ use Rattle.connection_laws.specs.InputSplits.{heard_requests_in, heard_requests_
 use Rattle.connection_laws.specs.Requests.{AreTaken, AwaitsReply, bytes_in, is_no_request, message_of, requests_in}
 use Rattle.connection_laws.specs.Requests.{rounds_input}
 use Rattle.connection_laws.proofs.ElementPaths.{GoesAll, IsOver, AnEnd, ABlock, Over, Element, RequestElement}
-use Rattle.connection_laws.proofs.ElementPaths.{over_element, path_of, elements_hearings, Exchange}
+use Rattle.connection_laws.proofs.ElementPaths.{over_element, path_of, exchange_of, Exchange}
 use Rattle.std.specs.Prelude.{⊤}
 use Rattle.connection_laws.proofs.CourseInduction.{begin_of, takings_requests, rounds_requests}
 use Rattle.connection_laws.proofs.ElementStreams.{no_element}
 
-append_by : (other : Bool) (x : List ℕ) (all xs ys : List (List ℕ)) → all ≡ xs ++ ys
-    → (if other then all else x ∷ all) ≡ (if other then xs else x ∷ xs) ++ ys
-append_by true x all xs ys same = same
-append_by false x all xs ys same = ap (λ rs. x ∷ rs) same
+append_by : (other : Bool) (x : List ℕ) (xs ys : List (List ℕ))
+    → (if other then xs ++ ys else x ∷ (xs ++ ys)) ≡ (if other then xs else x ∷ xs) ++ ys
+append_by true x xs ys = refl
+append_by false x xs ys = refl
 
 pub requests_append : (xs ys : List (List ℕ)) → requests_in (xs ++ ys) ≡ requests_in xs ++ requests_in ys
 requests_append [] ys = refl
 requests_append (x ∷ xs) ys =
-    append_by (is_no_request x) x (requests_in (xs ++ ys)) (requests_in xs) (requests_in ys) (requests_append xs ys)
+    rw (requests_append xs ys, append_by (is_no_request x) x (requests_in xs) (requests_in ys))
 
 -- a request begins with another byte than CR, LF and `$`
 pub starts_request : (input : List ℕ) (n : ℕ) → StartsMessage input → 0 < n → is_no_request (take n input) ≡ false
 starts_request input n starts some =
     let same : get_or (take n input) 0 0 ≡ get_or input 0 0 = get_or-take n input 0 0 some in
-    ap (λ b. is_line_end b || (b == 36)) same ∙ ap (λ b. b || (get_or input 0 0 == 36)) starts.1 ∙ starts.2
+    rw (same, starts.1, starts.2)
 
 over_other : (input : List ℕ) (n : ℕ) → IsOver input n → is_no_request (take n input) ≡ true
 over_other input n (AnEnd one some end) =
     let same : get_or (take n input) 0 0 ≡ get_or input 0 0 = get_or-take n input 0 0 (omega (arith, one)) in
-    ap (λ b. is_line_end b || (b == 36)) same ∙ ap (λ b. b || (get_or input 0 0 == 36)) end
+    rw (same, end)
 over_other input n (ABlock starts four size inside) =
     let same : get_or (take n input) 0 0 ≡ 36 = get_or-take n input 0 0 (omega (arith, size)) ∙ starts.1 in
-    ap (λ b. is_line_end b || (b == 36)) same
+    rw same
 
 -- bytes are split into elements with these requests, and into what waits
 pub record CutsAll (heard : List ℕ) (new : Stage) (messages : List (List ℕ)) : Type 0 where
@@ -68,18 +68,18 @@ first_cut {input} n element rest = record {
 
 -- elements that are processed are those of the input
 goes_cut : (old new : Stage) (elements : List Element) → GoesAll old elements new
-    → CutsAll old.input new (map message_of (elements_hearings elements))
+    → CutsAll old.input new (map message_of (exchange_of elements).hearings)
 goes_cut old new [] goes = record { elements = []; cut = ap (λ (s : Stage). s.input) (sym goes); requests = refl }
 goes_cut old new (Over n ∷ elements) goes =
     let passing = goes.1.0 in
-    let ms = map message_of (elements_hearings elements) in
+    let ms = map message_of (exchange_of elements).hearings in
     subst (λ b. CutsAll old.input new (if b then ms else take n old.input ∷ ms)) (over_other old.input n passing.over)
     (first_cut n (over_element old.input n passing.over)
     (subst (λ (s : Stage). CutsAll s.input new ms) passing.new_is (goes_cut goes.0 new elements goes.1.1)))
 goes_cut old new (RequestElement turn ∷ elements) goes =
     let next = goes.1.0.next in
     let n : ℕ = length turn.heard.message in
-    let ms = map message_of (elements_hearings elements) in
+    let ms = map message_of (exchange_of elements).hearings in
     let some : 0 < n = omega (arith, next.first.1.total_is, next.first.1.is_head.some) in
     subst (λ m. CutsAll old.input new (m ∷ ms)) (sym next.message_is)
     (subst (λ b. CutsAll old.input new (if b then ms else take n old.input ∷ ms))

@@ -263,7 +263,7 @@ past_sends (b ∷ bytes) rest (d ∷ front) after is whole =
 pub whole_rounds : (rounds : List Round) (front after : List IoEvent) → rounds_doings rounds ≡ front ++ after
     → ((byte : ℕ) (later : List IoEvent) → after ≡ Sent byte ∷ later → ⊥) → AreWhole rounds front
 whole_rounds rounds [] after is whole = record { first = []; later = rounds; parts = refl; front_is = refl }
-whole_rounds [] (d ∷ front) after is whole = absurd (let no : ⊥ = cc in no)
+whole_rounds [] (d ∷ front) after is whole = cc
 whole_rounds (round ∷ rounds) (d ∷ front) after is whole =
     let first : d ≡ round.event = cc in
     let tail : sends (round_bytes round) ++ rounds_doings rounds ≡ front ++ after = cc in

@@ -12,7 +12,8 @@ use Rattle.session.specs.RequestSteps.{after_admission, after_full, after_halt, 
 use Rattle.session.specs.SlotSteps.{after_slot, after_play, is_sending, sent_slot}
 use Rattle.session.specs.SessionStates.{OpenBooking, SessionState, awaited_answer_of, AwaitedAnswer, NoAnswer}
 use Rattle.session.specs.SessionStates.{HaltAnswer}
-use Rattle.conn.specs.InputSteps.{IsClosed, Outcome, Unasked, Entered, WasFull, Offered, SentPart, slot_parts, due_parts}
+use Rattle.conn.specs.InputSteps.{IsClosed, Outcome, Unasked, Entered, WasFull, Offered, SentPart, slot_parts}
+use Rattle.conn.specs.InputSteps.{due_parts}
 use Rattle.std.proofs.lemmas.Bool.{and_parts, ltb-true}
 use Rattle.conn.proofs.StationAnswers.{AnswersAs, PlayAdmitted, PlayOverflowed, PlayHalted, LookMade}
 use Rattle.conn.proofs.StationAnswers.{FinishesAs, NothingLeft, DoneHalted, finishes_as}
@@ -46,13 +47,13 @@ finish_leaves {s} (DoneHalted {placed = p} entry) = ap (after_entry s p) (sym en
 pub nothing_left : {s new : SessionState} {asks : AwaitedAnswer} {outcome : Outcome} → FinishesAs s asks outcome new
     → asks ≡ NoAnswer → new ≡ s
 nothing_left NothingLeft none = refl
-nothing_left (DoneHalted {keep = keep} entry) none = absurd (let no : ⊥ = cc in no)
+nothing_left (DoneHalted {keep = keep} entry) none = cc
 
 -- what a halt was asked for
 pub halt_of : {keep : ℕ} (awaited : Awaited) → awaited_answer_of awaited ≡ HaltAnswer keep
     → (next : AfterHalt) × (awaited ≡ Halt keep next)
 halt_of (Halt kept next) is = (next, cc)
-halt_of _ is = absurd (let no : ⊥ = cc in no)
+halt_of _ is = cc
 
 -- a connection ends without an open booking, or it halts its booking with what is due
 abbrev pub closing : Option OpenBooking → AwaitedAnswer

@@ -13,7 +13,8 @@ use Rattle.session.specs.SessionStates.{SessionState, AwaitedAnswer, HaltAnswer,
 use Rattle.conn.specs.InputSteps.{Outcome, Unasked, SentPart, HasStepped, IsAskAnswered}
 use Rattle.connection_laws.specs.InputSplits.{AreSameAnswers, HeardRequest, LackMemoryAlike, RanOutOfMemory, answer_in}
 use Rattle.connection_laws.proofs.StationAnswers.{after_outcome, answer_leaves, finish_leaves}
-use Rattle.conn.proofs.StationAnswers.{AnswersAs, NoneAsked, answers_as, FinishesAs, NothingLeft, DoneHalted, finishes_as}
+use Rattle.conn.proofs.StationAnswers.{AnswersAs, NoneAsked, answers_as, FinishesAs, NothingLeft, DoneHalted}
+use Rattle.conn.proofs.StationAnswers.{finishes_as}
 
 -- ---- a request is received
 

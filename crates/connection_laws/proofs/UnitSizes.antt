@@ -27,7 +27,7 @@ use Rattle.rtsp_client.proofs.RunFrames.{has-packet}
 use Rattle.connection_laws.proofs.Blocks.{blocks_append, frame_block, frame_blocks, frame_moment, frames_after, last_is}
 use Rattle.connection_laws.proofs.Blocks.{octets_after, report_block, report_if, report_moment, unit_among, unit_blocks}
 use Rattle.connection_laws.proofs.Blocks.{unit_made, unit_one, RunFrom}
-use Rattle.connection_laws.proofs.PieceCounts.{count_past, count_within}
+use Rattle.connection_laws.proofs.PieceCounts.{all_past, all_within}
 use Rattle.connection_laws.proofs.HistorySums.{IsOneBlock, AreOneBlocks, Sum, blocks_same, plays, step, steps, steps_on}
 use Rattle.connection_laws.proofs.Lists.{each_append, joins_parts}
 
@@ -43,28 +43,21 @@ pub block_sizes : {event : ClientEvent} (b : List ℕ) (bs : List (List ℕ)) (P
     → element_events b ≡ event ∷ [] → P (event ∷ events_of_elements bs) → P (events_of_elements (b ∷ bs))
 block_sizes b bs P is met = subst (λ l. P (l ++ events_of_elements bs)) (sym is) met
 
--- a unit of a run on channel 0, with the frames that the run sent before
-record UnitOfRun : Type 0 where
-  run : FramedRun
-  frames : ℕ
-  unit : PictureUnit
-  media : run.identity.channel ≡ 0
-
 -- before the last frame the sizes are as they were
-part_frames : (of_run : UnitOfRun) (k : ℕ) (packets : List Packet) (s : Sum) → IsLastMarked packets →
-    k < length (frame_blocks of_run.run of_run.unit of_run.frames packets) →
-    (steps s (events_of_elements (take k (frame_blocks of_run.run of_run.unit of_run.frames packets)))).sizes ≡ s.sizes
-part_frames of_run zero packets s marked few = refl
-part_frames of_run (suc k) (p ∷ (q ∷ packets)) s marked few =
+part_frames : (from : RunFrom) (unit : PictureUnit) (k : ℕ) (marked : (packets : List Packet) × IsLastMarked packets)
+    (s : Sum) → k < length (frame_blocks from.run unit from.frames marked.0)
+    → (steps s (events_of_elements (take k (frame_blocks from.run unit from.frames marked.0)))).sizes ≡ s.sizes
+part_frames from unit zero marked s few = refl
+part_frames from unit (suc k) (p ∷ (q ∷ packets), marked) s few =
     let b = frame_block run unit p f in
     block_sizes b (take k (frame_blocks run unit (f + 1) (q ∷ packets))) (λ l. (steps s l).sizes ≡ s.sizes)
     (frame_moment run f unit p media)
-    (part_frames (record { run = run; frames = f + 1; unit = unit; media = media }) k (q ∷ packets)
-    (step (Frame b) s) marked.1 (omega (arith, few))
+    (part_frames (record from { frames = f + 1 }) unit k (q ∷ packets, marked.1) (step (Frame b) s) (omega (arith, few))
     ∙ cond-false (is_last b) (s.sizes ++ (s.pending + length b) ∷ []) s.sizes (last_is run f unit p ∙ marked.0))
   where
-    open of_run use {run, frames as f, unit, media}
-part_frames of_run (suc k) _ s marked few = absurd (omega (arith, few))
+    open from use {run, frames as f, media}
+part_frames from unit (suc k) ([], marked) s few = absurd (omega (arith, few))
+part_frames from unit (suc k) (p ∷ [], marked) s few = absurd (omega (arith, few))
 
 -- a unit is complete: its size is that of its frames and of what waited before them
 pub record IsUnitDone (s : Sum) (size : ℕ) (t : Sum) : Type 0 where
@@ -72,46 +65,38 @@ pub record IsUnitDone (s : Sum) (size : ℕ) (t : Sum) : Type 0 where
   pub pending : t.pending ≡ 0
   pub inside : t.inside ≡ false
 
-whole_frames : {s : Sum} (of_run : UnitOfRun) (packets : List Packet) → IsLastMarked packets → 0 < length packets →
-    IsUnitDone s (s.pending + length (framed_bytes (frame_blocks of_run.run of_run.unit of_run.frames packets)))
-    (steps s (events_of_elements (frame_blocks of_run.run of_run.unit of_run.frames packets)))
-whole_frames {s} of_run [] marked some = absurd (omega (arith, some))
-whole_frames {s} of_run (p ∷ []) marked some =
+whole_frames : {s : Sum} (from : RunFrom) (unit : PictureUnit) (packets : List Packet) → IsLastMarked packets
+    → 0 < length packets → IsUnitDone s
+    (s.pending + length (framed_bytes (frame_blocks from.run unit from.frames packets)))
+    (steps s (events_of_elements (frame_blocks from.run unit from.frames packets)))
+whole_frames from unit [] marked some = absurd (omega (arith, some))
+whole_frames {s} from unit (p ∷ []) marked some =
     let b = frame_block run unit p f in
     let last : is_last b ≡ true = last_is run f unit p ∙ marked in
-    let size : s.pending + length b ≡ s.pending + length (b ++ []) =
-    ap (λ (l : List ℕ). s.pending + length l) (sym (append-nil b)) in
     block_sizes b [] (λ l. IsUnitDone s (s.pending + length (b ++ [])) (steps s l)) (frame_moment run f unit p media)
     (record {
       sizes = cond-true (is_last b) (s.sizes ++ (s.pending + length b) ∷ []) s.sizes last
-          ∙ ap (λ n. s.sizes ++ n ∷ []) size;
+          ∙ ap (λ (l : List ℕ). s.sizes ++ (s.pending + length l) ∷ []) (sym (append-nil b));
       pending = cond-true (is_last b) 0 (s.pending + length b) last;
       inside = ap not last;
     })
   where
-    open of_run use {run, frames as f, unit, media}
-whole_frames {s} of_run (p ∷ (q ∷ packets)) marked some =
+    open from use {run, frames as f, media}
+whole_frames {s} from unit (p ∷ (q ∷ packets)) marked some =
     let b = frame_block run unit p f in
     let last : is_last b ≡ false = last_is run f unit p ∙ marked.0 in
     let blocks = frame_blocks run unit (f + 1) (q ∷ packets) in
     let t = step (Frame b) s in
-    let rest = whole_frames {s = t} (record { run = run; frames = f + 1; unit = unit; media = media })
-    (q ∷ packets) marked.1 (omega arith) in
+    let rest = whole_frames {s = t} (record from { frames = f + 1 }) unit (q ∷ packets) marked.1 (omega arith) in
     let sizes_same = cond-false (is_last b) (s.sizes ++ (s.pending + length b) ∷ []) s.sizes last in
     let pending_is = cond-false (is_last b) 0 (s.pending + length b) last in
     let size : t.pending + length (framed_bytes blocks) ≡ s.pending + length (b ++ framed_bytes blocks) =
     omega (arith, pending_is, length-append b (framed_bytes blocks)) in
     block_sizes b blocks (λ l. IsUnitDone s (s.pending + length (b ++ framed_bytes blocks)) (steps s l))
     (frame_moment run f unit p media)
-    (record {
-      sizes = rest.sizes
-          ∙ (ap (λ l. l ++ (t.pending + length (framed_bytes blocks)) ∷ []) sizes_same
-          ∙ ap (λ n. s.sizes ++ n ∷ []) size);
-      pending = rest.pending;
-      inside = rest.inside;
-    })
+    (record { sizes = rw (rest.sizes, sizes_same, size); pending = rest.pending; inside = rest.inside })
   where
-    open of_run use {run, frames as f, unit, media}
+    open from use {run, frames as f, media}
 
 -- ---- a unit, its report before its frames
 
@@ -131,19 +116,15 @@ part_unit : (starts : Bool) (from : RunFrom) (k : ℕ) (marked_unit : MarkedUnit
     → k < length (marked_blocks starts from marked_unit)
     → (steps s (events_of_elements (take k (marked_blocks starts from marked_unit)))).sizes ≡ s.sizes
 part_unit false from k marked_unit s few =
-    part_frames (record { run = run; frames = f; unit = marked_unit.unit; media = media }) k
-    marked_unit.packets s marked_unit.marked few
-  where
-    open from use {run, frames as f, media}
+    part_frames from marked_unit.unit k (marked_unit.packets, marked_unit.marked) s few
 part_unit true from zero marked_unit s few = refl
 part_unit true from (suc k) marked_unit s few =
     let b = report_block run unit f o in
     block_sizes b (take k (frame_blocks run unit f packets)) (λ l. (steps s l).sizes ≡ s.sizes)
     (report_moment run f o unit control)
-    (part_frames (record { run = run; frames = f; unit = unit; media = media }) k packets (step (Report b) s)
-    marked (omega (arith, few)))
+    (part_frames from unit k (packets, marked) (step (Report b) s) (omega (arith, few)))
   where
-    open from use {run, frames as f, octets as o, media, control}
+    open from use {run, frames as f, octets as o, control}
     open marked_unit use {unit, packets, marked}
 
 -- a sum that plays and stands between two units
@@ -156,18 +137,18 @@ whole_unit : {s : Sum} (starts : Bool) (from : RunFrom) (marked_unit : MarkedUni
     → AtUnit s → IsUnitDone s (length (framed_bytes (marked_blocks starts from marked_unit)))
     (steps s (events_of_elements (marked_blocks starts from marked_unit)))
 whole_unit {s} false from marked_unit some between =
-    let done = whole_frames (record { run = run; frames = f; unit = unit; media = media }) packets marked some in
-    let size : s.pending + length (framed_bytes (frame_blocks run unit f packets)) ≡ length
-    (framed_bytes (frame_blocks run unit f packets)) = omega (arith, between.none) in
-    record { sizes = done.sizes ∙ ap (λ n. s.sizes ++ n ∷ []) size; pending = done.pending; inside = done.inside }
+    let done = whole_frames {s = s} from unit packets marked some in
+    let size : s.pending + length (framed_bytes (frame_blocks run unit f packets))
+    ≡ length (framed_bytes (frame_blocks run unit f packets)) = omega (arith, between.none) in
+    record { sizes = rw (done.sizes, size); pending = done.pending; inside = done.inside }
   where
-    open from use {run, frames as f, media}
+    open from use {run, frames as f}
     open marked_unit use {unit, packets, marked}
 whole_unit {s} true from marked_unit some between =
     let b = report_block run unit f o in
     let t = step (Report b) s in
     let blocks = frame_blocks run unit f packets in
-    let done = whole_frames (record { run = run; frames = f; unit = unit; media = media }) packets marked some in
+    let done = whole_frames {s = t} from unit packets marked some in
     let waits : t.pending ≡ s.pending + length b = cond-true (plays s && not s.inside) (s.pending + length b) s.pending
     (and_from (plays s) (not s.inside) between.on (ap not between.outside)) in
     let size : t.pending + length (framed_bytes blocks) ≡ length (b ++ framed_bytes blocks) = omega (
@@ -178,9 +159,9 @@ whole_unit {s} true from marked_unit some between =
     ) in
     block_sizes b blocks (λ l. IsUnitDone s (length (b ++ framed_bytes blocks)) (steps s l))
     (report_moment run f o unit control)
-    (record { sizes = done.sizes ∙ ap (λ n. s.sizes ++ n ∷ []) size; pending = done.pending; inside = done.inside })
+    (record { sizes = rw (done.sizes, size); pending = done.pending; inside = done.inside })
   where
-    open from use {run, frames as f, octets as o, media, control}
+    open from use {run, frames as f, octets as o, control}
     open marked_unit use {unit, packets, marked}
 
 -- ---- units
@@ -272,7 +253,7 @@ module _ {s : Sum} where
   come_within {c} first ys sizes less =
       let xs = first_blocks first in
       let w = first_size first in
-      let within = count_within xs ys c (omega (arith, less, first_sized first)) in
+      let within = all_within xs ys c (omega (arith, less, first_sized first)) in
       let k = count_ended c xs in
       rw within.0 (rw (take-append-le k xs ys (omega (arith, within.1)))
       (record {
@@ -300,7 +281,7 @@ module _ {s : Sum} where
       let size = first_sized first in
       let d = c - length (framed_bytes xs) in
       let k = count_ended d ys in
-      let past : count_ended c (xs ++ ys) ≡ length xs + k = count_past xs ys c (omega (arith, more, size)) in
+      let past : count_ended c (xs ++ ys) ≡ length xs + k = (all_past xs ys c (omega (arith, more, size))).0 in
       let t = steps s (events_of_elements xs) in
       let done = first_done first in
       let same = blocks_same xs s (unit_one first.from first.starts first.unit) in

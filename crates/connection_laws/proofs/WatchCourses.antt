@@ -45,7 +45,7 @@ record IsGiven (wish : Wish) (watched : Watched) (at : WatchStage) (out : List �
 
 stop_of : (wish : Wish) (watched : Watched) (at : WatchStage) (sent out : List ℕ)
     → Stops wish at (Done watched) sent out → IsGiven wish watched at out
-stop_of wish watched at sent out (inl framing) = absurd (let no : ⊥ = cc in no)
+stop_of wish watched at sent out (inl framing) = cc
 stop_of wish watched at sent out (inr (moment, (next, inl gives))) =
     record { moment = moment; next = next; gives = gives.0; out_none = gives.2 }
 stop_of wish watched at sent out (inr (moment, (next, inr fails))) = absurd fails.1
@@ -58,9 +58,9 @@ IsEnd wish watched mid doings out = (bytes : List ℕ) × ((sent : List ℕ)
 
 end_of : {wish : Wish} {watched : Watched} {count : ℕ} {doings : List IoEvent} {out : List ℕ} (mid : WatchStage)
     → Ends wish mid count (Done watched) doings out → IsEnd wish watched mid doings out
-end_of {out} mid (inl (inl fault, none, empty)) = absurd (let no : ⊥ = cc in no)
-end_of {out} mid (inl (inr spent, none, empty)) = absurd (let no : ⊥ = cc in no)
-end_of {out} mid (inr (inl early)) = absurd (let no : ⊥ = cc in no)
+end_of {out} mid (inl (inl fault, none, empty)) = cc
+end_of {out} mid (inl (inr spent, none, empty)) = cc
+end_of {out} mid (inr (inl early)) = cc
 end_of {out} mid (inr (inr (bytes, (sent, (stops, doings_are, few))))) = (bytes, (sent, (stops, doings_are)))
 
 -- all of a course: the bytes that were received, and where it is done

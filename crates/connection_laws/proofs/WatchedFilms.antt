@@ -61,8 +61,7 @@ watched_whole wish stored watched out is =
     (framed_bytes (all_of x)) carried.front.0 carried.front.1.1 (all_sent played) in
     let feeds : AreFed wish stored.film x begin [] client.rounds = λ before later round slot split event after_begin.
     let its = told.split before later round split in
-    let P : List ℕ → ℕ → Type 0 = λ b n. IsFed wish stored.film x b n in
-    subst (λ b. P b (slot - begin)) its.1.1.1
+    rw (← its.1.1.1)
     (fed played (carried.each its.0 its.1.0 slot (its.1.1.0 ∙ ap (λ e. its.0 ++ e ∷ its.1.0) event) after_begin)) in
     let kept = kept_promise front.count (record {
       wish = wish;
@@ -134,7 +133,7 @@ stopped_done {wish} {s} w received stopped decided =
 -- an answer that is `Done` where the events decide it refuses nothing
 refuses_none : (end : WatchEnd) → (IsDecided end → (watched : Watched) × (end ≡ Done watched)) → RefusesNothing end
 refuses_none (Fault fault) decided =
-    let its = decided tt in absurd (let same : Fault fault ≡ Done its.0 = its.1 in let no : ⊥ = cc in no)
+    let its = decided tt in absurd (let same : Fault fault ≡ Done its.0 = its.1 in cc)
 refuses_none _ decided = tt
 
 -- ---- the entire watching

@@ -18,8 +18,8 @@ looks_in (Asks asked outcome ∷ askings) = look_in asked + looks_in askings
 
 abbrev pub course_looks : Course → ℕ
 course_looks course =
-    looks_in (askings_of (first_stage course.films course.settings course.words) course.rounds course.last
-    course.follows)
+    looks_in (askings_of (first_stage course.films course.settings course.words) course.rounds
+    course.last course.follows)
 
 -- a request is a PLAY in Ready, an offer in Ready, or a look that at least 1,024 looks came before
 abbrev pub MayLackMemory : Course → List ℕ → Type 0

@@ -1,5 +1,5 @@
--- Which run of a film each play of a connection sends, and from where on (RFC 2326 sections 10.5 and
--- 10.6).
+-- Which run of a film each play of a connection sends, and from where on (RFC 2326 sections 10.5
+-- and 10.6).
 use Rattle.std.specs.Prelude.{ℕ, ◌≡◌, ◌+◌, ◌%◌, ◌^◌, ◌⊎◌, ⊤, List, [], ◌∷◌, slice_index}
 use Rattle.std.specs.Prelude.{Option, Some, None}
 use Rattle.rtp_pack.specs.declared.reports.Identity.{Identity}
@@ -35,8 +35,8 @@ pub record IsLaterRun (last : RunPlace) (identity : Identity) : Type 0 where
   pub numbers : GoesOn last.run.identity identity
       (frames_before last.run last.sent) (octets_before last.run last.sent)
 
--- A play sends a run of a film. Where another play came before it, it resumes the same run, from the
--- place up to which that play was kept; or it begins a later one.
+-- A play sends a run of a film. Where another play came before it, it resumes the same run, from
+-- the place up to which that play was kept; or it begins a later one.
 abbrev pub SendsNext : List ℕ → Option RunPlace → FramedRun → FilmPlay → Type 0
 SendsNext words None run play = (play.before ≡ 0) × IsFirstRun words run.identity
 SendsNext words (Some last) run play =

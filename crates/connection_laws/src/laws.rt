@@ -155,7 +155,8 @@ pub fn law_first_looks_of_a_connection_find_memory()
 /// The requests in a connection's input are processed in order. After each event so were all that
 /// are complete, unless an earlier reply waits or the 200 of a TEARDOWN was sent.
 pub fn law_requests_processed_in_order()
-    ensures { (beginning : Beginning) (cutting : InputSplit beginning) → AreTaken beginning cutting }
+    ensures { (beginning : Beginning) (cutting : InputSplit beginning)
+        → AreTaken beginning cutting }
 {}
 
 /// The laws on how input is split apply to a connection's course, with the last event where an
