@@ -4,32 +4,21 @@ use Rattle.std.proofs.Common.{◌≡◌, ℕ, ◌+◌, ◌<◌, ◌≤◌, ◌==
 use Rattle.std.proofs.Common.{take, drop, Some, is_some, unwrap_or, Err, refl, sym, ap, subst, ◌∙◌, arith, inl, inr}
 use Rattle.std.proofs.lemmas.Bool.{cond-true, cond-false, eq-eqb, lt-ltb, ne_eqb, or_left}
 use Rattle.std.proofs.lemmas.List.{append-nil, drop_at, take-append-drop, take-append-le, take_at}
-use Rattle.interleave.specs.Elements.{IsFirst}
-use Rattle.interleave.specs.Streams.{AreInputElements}
+use Rattle.connection_laws.proofs.Terms.{IsFirst, AreInputElements, Film, picture_time, Identity, frames_among}
+use Rattle.connection_laws.proofs.Terms.{pieces_of, blocks_from, framed_bytes, length_ms, Wish, Gives, GoesOn}
+use Rattle.connection_laws.proofs.Terms.{events_of_elements, element_events, is_complete, units_until, frames_heard}
+use Rattle.connection_laws.proofs.Terms.{frames_of, watched_in, IsAnswer, play_range, play_start, setup_session}
+use Rattle.connection_laws.proofs.Terms.{History, ClientEvent, Frame, Reply, end_ms, replies, IsNext, AreAnswers}
+use Rattle.connection_laws.proofs.Terms.{AreGoodReplies}
 use Rattle.interleave.specs.declared.elements.DemuxFault.{DemuxFault}
 use Rattle.interleave.specs.declared.elements.DemuxFault.TheVariants.{HeadTooLong, BodyTooLong}
 use Rattle.interleave.proofs.ElementStability.{whole_stays}
 use Rattle.interleave.proofs.StreamElements.{TwoCuts, cut_grows, cuts_agree, element_once, element_stays}
 use Rattle.interleave.proofs.StreamElements.{element_within, tells_none}
-use Rattle.mpeg_scan.specs.declared.films.Film.{Film}
-use Rattle.mpeg_scan.specs.PictureRates.{picture_time}
-use Rattle.rtp_pack.specs.declared.reports.Identity.{Identity}
-use Rattle.film_frames.specs.Laws.{frames_among}
-use Rattle.film_frames.specs.Pieces.{pieces_of}
-use Rattle.film_frames.specs.FramedRuns.{blocks_from}
-use Rattle.film_frames.specs.Tracks.{framed_bytes}
-use Rattle.film_streams.specs.Films.{length_ms}
-use Rattle.rtsp_client.specs.declared.watch_request.Wish.{Wish}
 use Rattle.rtsp_client.specs.declared.watch_request.WatchEnd.TheVariants.{Done}
-use Rattle.rtsp_client.specs.Answers.{Gives, GoesOn, events_of_elements, element_events, has_fields}
-use Rattle.rtsp_client.specs.Films.{is_complete, is_good_frame, units_until}
-use Rattle.rtsp_client.specs.MeterGuarantee.{frames_heard, frames_of}
-use Rattle.rtsp_client.specs.Meters.{watched_in}
-use Rattle.rtsp_client.specs.Replies.{IsAnswer, play_range, play_start, setup_session}
-use Rattle.rtsp_client.specs.ClientHistory.{History, ClientEvent, Frame, Reply, end_ms, replies}
-use Rattle.rtsp_client.specs.WatchCourses.{IsNext}
+use Rattle.rtsp_client.specs.Answers.{has_fields}
+use Rattle.rtsp_client.specs.Films.{is_good_frame}
 use Rattle.rtsp_client.specs.WholeFilms.{AwaitsFilm, frames_of_film}
-use Rattle.connection_laws.specs.WatchEnds.{AreAnswers, AreGoodReplies}
 use Rattle.connection_laws.proofs.ClientInput.{no_sum}
 use Rattle.connection_laws.proofs.ElementStreams.{AreAlone, no_element, FramedFront}
 use Rattle.connection_laws.proofs.FilmReading.{film_run, units_all, more_reply, WholeStream, run_from}

@@ -5,42 +5,28 @@ use Rattle.std.proofs.Common.{◌≡◌, ℕ, zero, suc, ◌+◌, ◌^◌, ◌�
 use Rattle.std.proofs.Common.{subst, map, []}
 use Rattle.std.proofs.lemmas.List.Elements.{All-append, All-contains, All-cons, All-get_or, All-head, All-nil, All-tail}
 use Rattle.std.proofs.lemmas.List.Elements.{All-weaker}
-use Rattle.film_frames.specs.declared.stored_films.Stored.{Stored}
+use Rattle.std.proofs.lemmas.List.{map-append}
+use Rattle.connection_laws.proofs.Terms.{Stored, Answer, Admitted, Command, PlacedEntry, Settings, Awaited, Play}
+use Rattle.connection_laws.proofs.Terms.{SessionState, AwaitedAnswer, Wish, Activity, HasDone, doings_outcomes, Ending}
+use Rattle.connection_laws.proofs.Terms.{AtElement, InReply, Round, ending_outcomes, entries_in, round_outcomes}
+use Rattle.connection_laws.proofs.Terms.{rounds_outcomes, Outcome, Unasked, Entered, WasFull, Offered, ending_rounds}
+use Rattle.connection_laws.proofs.Terms.{ConnReport, IsAskedFor, Course, askings_of, course_plays, StationRequest, Asks}
+use Rattle.connection_laws.proofs.Terms.{FilmPlay, play_by, plays_admitted, plays_begun, plays_of, StationCall}
+use Rattle.connection_laws.proofs.Terms.{outcome_of, play_of, Segment}
 use Rattle.slot_calendar.specs.declared.profiles.CapStep.{CapStep}
-use Rattle.admission.specs.declared.entries.Answer.{Answer}
-use Rattle.admission.specs.declared.entries.Answer.TheVariants.{Admitted}
-use Rattle.admission.specs.declared.entries.Command.{Command}
 use Rattle.admission.specs.declared.entries.Command.TheVariants.{Play as PlayCommand}
 use Rattle.admission.specs.declared.entries.Entry.{Entry}
 use Rattle.admission.specs.Histories.{IsLegal, asked_in, latest_asked, state_after}
 use Rattle.admission.specs.Machine.{IsAnswer, State}
-use Rattle.admission.specs.Makers.{PlacedEntry}
 use Rattle.admission.proofs.HistoryPrefixes.{legal-take, no_entry}
 use Rattle.admission.proofs.PlayCounts.{tally}
-use Rattle.film_streams.specs.declared.settings.Settings.{Settings}
-use Rattle.session.specs.declared.states.Awaited.{Awaited}
-use Rattle.session.specs.declared.states.Awaited.TheVariants.{Play}
-use Rattle.session.specs.SessionStates.{SessionState, AwaitedAnswer}
-use Rattle.rtsp_client.specs.declared.watch_request.Wish.{Wish}
-use Rattle.conn.specs.Agreement.{Activity, HasDone, Visit, doings_outcomes}
-use Rattle.conn.specs.EventSteps.{Ending, AtElement, InReply, Round, ending_outcomes, entries_in, round_outcomes}
-use Rattle.conn.specs.EventSteps.{rounds_outcomes}
-use Rattle.conn.specs.InputSteps.{Outcome, Unasked, Entered, WasFull, Offered}
+use Rattle.conn.specs.Agreement.{Visit}
 use Rattle.conn.specs.Journals.{AgreeWith, StandsIn, Terms}
-use Rattle.conn.specs.Plays.{ending_rounds}
-use Rattle.conn.specs.declared.reports.ConnReport.{ConnReport}
-use Rattle.connection_laws.specs.ClientRequests.{IsAskedFor}
-use Rattle.connection_laws.specs.Courses.{Course, askings_of, course_plays}
-use Rattle.connection_laws.specs.Plays.{StationRequest, Asks, FilmPlay, play_by, plays_admitted, plays_begun, plays_of}
 use Rattle.connection_laws.specs.StartRanges.{AreMadeByConnections, IsCourseIn, IsMadeByConnection, StartsInRange}
 use Rattle.connection_laws.proofs.BookedPlays.{course_outcomes, outcomes_in}
 use Rattle.connection_laws.proofs.RequestEffects.{RequestAnswer, Admission, Refusal, HaltMade, LookAnswer}
 use Rattle.connection_laws.proofs.RequestEffects.{request_answer}
-use Rattle.std.proofs.lemmas.List.{map-append}
-use Rattle.connection_laws.specs.Notes.{StationCall, outcome_of}
 use Rattle.connection_laws.proofs.CourseTurns.{IsKeptByDoings, doings_kept, turns_told}
-use Rattle.station.specs.Ledgers.{play_of}
-use Rattle.plan_cert.specs.declared.Segment.{Segment}
 use Rattle.connection_laws.proofs.CourseInduction.{begin_of}
 use Rattle.conn.proofs.StationAnswers.{FinishesAs, NothingLeft, DoneHalted, IsHaltEntry}
 use Rattle.connection_laws.proofs.Lists.{Each, each_append, each_front, each_rest}

@@ -1,17 +1,13 @@
 -- The blocks of a run, unit by unit: a report before a unit that starts a group, and its frames.
 use Rattle.std.proofs.Common.{◌≡◌, ℕ, ◌+◌, ◌*◌, ◌<◌, Bool, true, false, nat_le, cond, List, [], ◌∷◌, ◌++◌, map, refl}
 use Rattle.std.proofs.Common.{ap, ◌∙◌, arith, inl, inr}
+use Rattle.connection_laws.proofs.Terms.{picture_time, Packet, unit_packets, frames_among, unit_pieces, FramedRun}
+use Rattle.connection_laws.proofs.Terms.{blocks_from, payload, block_events, element_events, Frame, Report, is_last}
 use Rattle.mpeg_scan.specs.declared.units.Unit.{Unit as PictureUnit}
-use Rattle.mpeg_scan.specs.PictureRates.{picture_time}
-use Rattle.rtp_pack.specs.declared.payloads.Packet.{Packet}
 use Rattle.rtp_pack.specs.Heads.{bit, head_bytes, packet_head}
-use Rattle.rtp_pack.specs.Packets.{unit_packets}
 use Rattle.rtp_pack.specs.Reports.{report_bytes, unit_report}
-use Rattle.film_frames.specs.Laws.{frames_among}
-use Rattle.film_frames.specs.Pieces.{count_of, octets_of, unit_of, unit_pieces}
-use Rattle.film_frames.specs.FramedRuns.{FramedRun, blocks_from, interleaved_block, payload, piece_bytes}
-use Rattle.rtsp_client.specs.Answers.{block_events, element_events}
-use Rattle.rtsp_client.specs.ClientHistory.{Frame, Report, is_last}
+use Rattle.film_frames.specs.Pieces.{count_of, octets_of, unit_of}
+use Rattle.film_frames.specs.FramedRuns.{interleaved_block, piece_bytes}
 use Rattle.connection_laws.proofs.HistorySums.{IsOneBlock, AreOneBlocks}
 use Rattle.connection_laws.proofs.Lists.{each_append}
 

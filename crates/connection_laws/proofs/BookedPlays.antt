@@ -2,32 +2,22 @@
 use Rattle.std.proofs.Common.{◌≡◌, ℕ, ◌++◌, List, ◌∷◌, map, refl, ap, sym, ◌∙◌, ◌<◌, ◌≤◌, ◌⊎◌, subst, append_assoc}
 use Rattle.std.proofs.Common.{arith, inl, inr, []}
 use Rattle.std.proofs.lemmas.List.{map-append}
-use Rattle.plan_cert.specs.PlanSlots.{total_bytes}
+use Rattle.connection_laws.proofs.Terms.{total_bytes, play_admitted, PlacedEntry, Admitted, Halted, Awaited, Play}
+use Rattle.connection_laws.proofs.Terms.{SessionState, AwaitedAnswer, Round, entries_in, round_outcomes}
+use Rattle.connection_laws.proofs.Terms.{rounds_outcomes, takings_outcomes, Outcome, Unasked, Stage, ElementStep}
+use Rattle.connection_laws.proofs.Terms.{Passed, Answered, TakesAll, entry_in, Entered, IsCourseBetween, asked_by}
+use Rattle.connection_laws.proofs.Terms.{askings_of, round_askings, takings_askings, Course, course_plays}
+use Rattle.connection_laws.proofs.Terms.{IsCourseSplit, StationRequest, Asks, plays_admitted, plays_begun, booked_by}
+use Rattle.connection_laws.proofs.Terms.{kept_among, kept_in, kept_with, play_by, plays_of, FilmPlay, kept_by, IsPlan}
+use Rattle.connection_laws.proofs.Terms.{Answer, Command, Prepared, after_slot}
 use Rattle.slot_calendar.specs.Plays.{truncated_play}
-use Rattle.admission.specs.Histories.{play_admitted}
-use Rattle.admission.specs.Makers.{PlacedEntry}
-use Rattle.admission.specs.declared.entries.Answer.TheVariants.{Admitted, Halted}
-use Rattle.session.specs.declared.states.Awaited.{Awaited}
-use Rattle.session.specs.declared.states.Awaited.TheVariants.{Play}
-use Rattle.session.specs.SessionStates.{SessionState, AwaitedAnswer}
-use Rattle.conn.specs.EventSteps.{Round, entries_in, round_outcomes, rounds_outcomes, takings_outcomes}
-use Rattle.conn.specs.InputSteps.{Outcome, Unasked, Stage, ElementStep, Passed, Answered, TakesAll, entry_in, Entered}
-use Rattle.connection_laws.specs.Courses.{IsCourseBetween, asked_by, askings_of, round_askings, takings_askings, Course}
-use Rattle.connection_laws.specs.Courses.{course_plays, IsCourseSplit}
-use Rattle.connection_laws.specs.Plays.{StationRequest, Asks, plays_admitted, plays_begun, booked_by, booked_plays}
-use Rattle.connection_laws.specs.Plays.{booking_of, kept_among, kept_in, kept_with, play_by, plays_of, FilmPlay}
-use Rattle.connection_laws.specs.Plays.{kept_by}
+use Rattle.connection_laws.specs.Plays.{booked_plays, booking_of}
 use Rattle.connection_laws.proofs.RequestEffects.{Ends, Starts, Stays, TurnsAs, told_by, Begins, begun_is}
 use Rattle.connection_laws.proofs.CourseInduction.{Piece, parts_of, comes_heard, begin_of, course_kept}
 use Rattle.connection_laws.proofs.CourseSteps.{IsKeptStanding, Stands, request_turns, all_kept, kept_from_standing}
-use Rattle.plan_cert.specs.Plan.{IsPlan}
-use Rattle.admission.specs.declared.entries.Answer.{Answer}
-use Rattle.admission.specs.declared.entries.Command.{Command}
 use Rattle.admission.specs.declared.entries.Command.TheVariants.{Halt as HaltCommand}
-use Rattle.session.specs.declared.states.Prepared.{Prepared}
 use Rattle.connection_laws.proofs.KeptParts.{LastingPart, taken_keeps}
 use Rattle.conn.proofs.StationAnswers.{FinishesAs, NothingLeft, DoneHalted, ComesAs, BytesCame, SlotCame}
-use Rattle.session.specs.SlotSteps.{after_slot}
 use Rattle.connection_laws.proofs.Lists.{Each, each_append, each_weaker}
 
 -- the play that begins is the one that the entry records, if any

@@ -3,21 +3,15 @@ use Rattle.std.proofs.Common.{◌≡◌, ℕ, ◌+◌, ◌<◌, ◌≤◌, ◌==
 use Rattle.std.proofs.Common.{refl, sym, ap, ap₂, subst, ◌∙◌, append_assoc, arith, inl, inr}
 use Rattle.std.proofs.lemmas.Bool.{cond-false, ne_eqb}
 use Rattle.std.proofs.lemmas.List.{append-nil}
-use Rattle.vod_base.specs.Links.{IoEvent, HeardBytes, HeardSlot}
-use Rattle.interleave.specs.Streams.{AreInputElements, IsElementLength}
+use Rattle.connection_laws.proofs.Terms.{IoEvent, HeardBytes, HeardSlot, AreInputElements, IsElementLength, Wish}
+use Rattle.connection_laws.proofs.Terms.{Watched, GoOn, Gives, history_after, cut_bytes, events_of_elements}
+use Rattle.connection_laws.proofs.Terms.{element_events, payloads_of, Brings, IsNext, RunsAll, WatchStage, is_complete}
+use Rattle.connection_laws.proofs.Terms.{frames_heard, frames_of, first_slot, watched_in, History, ClientEvent, Frame}
+use Rattle.connection_laws.proofs.Terms.{Reply, Report, Slot, replies, bytes_in}
 use Rattle.interleave.proofs.StreamElements.{CutsInTurn, cuts_join}
-use Rattle.rtsp_client.specs.declared.watch_request.Wish.{Wish}
-use Rattle.rtsp_client.specs.declared.watch_request.Watched.{Watched}
 use Rattle.rtsp_client.specs.declared.watch_request.WatchEnd.TheVariants.{Done}
-use Rattle.rtsp_client.specs.Answers.{GoOn, Gives, history_after, cut_bytes, events_of_elements, element_events}
-use Rattle.rtsp_client.specs.Answers.{payloads_of}
-use Rattle.rtsp_client.specs.WatchCourses.{Brings, IsNext, Round, Runs, RunsAll, WatchStage, stage}
-use Rattle.rtsp_client.specs.Films.{is_complete}
-use Rattle.rtsp_client.specs.MeterGuarantee.{frames_heard, frames_of}
-use Rattle.rtsp_client.specs.Meters.{first_slot, watched_in}
-use Rattle.rtsp_client.specs.ClientHistory.{History, ClientEvent, Frame, Reply, Report, Slot, replies, slot_before}
-use Rattle.rtsp_client.specs.ClientHistory.{start}
-use Rattle.connection_laws.specs.Requests.{bytes_in}
+use Rattle.rtsp_client.specs.WatchCourses.{Round, Runs, stage}
+use Rattle.rtsp_client.specs.ClientHistory.{slot_before, start}
 use Rattle.connection_laws.proofs.FirstFrames.{HasGoneOn, gone_on}
 use Rattle.connection_laws.proofs.HistorySums.{Sum, replies_grow, steps, steps_on, sum_after, sum_of}
 use Rattle.connection_laws.proofs.UnitSizes.{frames_parts, moments_parts}

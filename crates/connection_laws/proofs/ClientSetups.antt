@@ -10,33 +10,25 @@ use Rattle.std.proofs.lemmas.Fmt.{decimal_digit, decimal_nonempty, digits_decima
 use Rattle.std.proofs.lemmas.List.{drop_at, get_or_append_left, get_or-append_right, length-append, take_all}
 use Rattle.std.proofs.lemmas.List.Folds.{list_all_at}
 use Rattle.std.proofs.lemmas.Option.{same_Some}
+use Rattle.connection_laws.proofs.Terms.{Stored, play_parts, setup_parts, film_url, setup_text, IsWish, Wish, IsRead}
+use Rattle.connection_laws.proofs.Terms.{header_value, request_head, Settings, Setup, IsFilmAt, Names, SessionState}
 use Rattle.vod_base.specs.Numbers.{is_decimal}
 use Rattle.vod_base.proofs.DigitLemmas.{decimal_numerals}
 use Rattle.vod_base.proofs.TextLemmas.{decimal_read}
-use Rattle.film_frames.specs.declared.stored_films.Stored.{Stored}
-use Rattle.rtsp_client.specs.RequestParts.{IsSessionId, play_parts, setup_parts}
-use Rattle.rtsp_client.specs.Requests.{film_url, setup_text}
-use Rattle.rtsp_client.specs.WatchRequests.{IsWish}
-use Rattle.rtsp_client.specs.declared.watch_request.Wish.{Wish}
+use Rattle.rtsp_client.specs.RequestParts.{IsSessionId}
 use Rattle.rtsp_client.proofs.RequestGrammar.{play-asked, setup-asked}
 use Rattle.rtsp_fields.specs.declared.transports.Channels.{Channels}
 use Rattle.rtsp_fields.specs.SeparatedParts.{IsPartEnd}
 use Rattle.rtsp_fields.specs.Transports.{IsTransport}
-use Rattle.rtsp_fields.specs.Urls.{IsRead, IsTail, NamesFilm}
+use Rattle.rtsp_fields.specs.Urls.{IsTail, NamesFilm}
 use Rattle.rtsp_fields.proofs.FieldUniqueness.{name_once, no_other_byte, transport_once}
 use Rattle.rtsp_fields.proofs.FilmPaths.{film_path}
 use Rattle.rtsp_fields.proofs.PartPlaces.{end_once}
 use Rattle.rtsp_fields.proofs.TransportTexts.{transport_read}
-use Rattle.rtsp_text.specs.Fields.{header_value}
 use Rattle.rtsp_text.specs.Replies.{value_named}
-use Rattle.rtsp_text.specs.RequestTexts.{request_head}
-use Rattle.film_streams.specs.declared.settings.Settings.{Settings}
-use Rattle.film_streams.specs.declared.setups.Setup.{Setup}
-use Rattle.film_streams.specs.Films.{IsFilmAt, Names}
 use Rattle.vod_base.specs.Limits.{WritesNumber}
 use Rattle.film_streams.specs.Setups.{AreChannelsOf, AsksForSetup, IsChosen}
 use Rattle.session_laws.proofs.SetupLemmas.{IsSetupRequest}
-use Rattle.session.specs.SessionStates.{SessionState}
 
 -- ---- the film that a URL names
 

@@ -1,43 +1,30 @@
 -- Each reply to a client's SETUP, PLAY and TEARDOWN is a complete message.
 use Rattle.std.specs.Prelude.{⊤}
-use Rattle.std.proofs.Common.{◌≡◌, ℕ, ◌<◌, ◌≤◌, ◌^◌, ◌⊎◌, List, [], ◌++◌}
-use Rattle.std.proofs.Common.{refl, codes, decimal, string_bytes, length, sym, ap, subst, ◌∙◌, arith, inl, inr}
-use Rattle.rtsp_replies.proofs.ReplyMessages.{short-decimal, name_printed}
+use Rattle.std.proofs.Common.{◌≡◌, ℕ, ◌<◌, ◌≤◌, ◌^◌, ◌⊎◌, List, [], ◌++◌, refl, codes, decimal, string_bytes, length}
+use Rattle.std.proofs.Common.{sym, ap, subst, ◌∙◌, arith, inl, inr}
 use Rattle.std.proofs.lemmas.List.{length-append}
-use Rattle.film_frames.specs.declared.stored_films.Stored.{Stored}
-use Rattle.admission.specs.declared.entries.Answer.TheVariants.{Admitted}
-use Rattle.admission.specs.Makers.{PlacedEntry}
-use Rattle.rtsp_client.specs.RequestParts.{teardown_parts}
-use Rattle.rtsp_client.specs.Requests.{film_url, play_text, setup_text, teardown_text}
+use Rattle.connection_laws.proofs.Terms.{Stored, Admitted, PlacedEntry, teardown_parts, film_url, play_text, setup_text}
+use Rattle.connection_laws.proofs.Terms.{teardown_text, IsRequest, request_head, Ask, setup_in, session_text}
+use Rattle.connection_laws.proofs.Terms.{after_admission, AreFilms, SessionState, HasValidIds, IsMessage, Entered}
+use Rattle.connection_laws.proofs.Terms.{Outcome, Stage, AreAnswers, IsAnswer}
+use Rattle.rtsp_replies.proofs.ReplyMessages.{short-decimal, name_printed}
 use Rattle.rtsp_client.proofs.RequestGrammar.{teardown-asked}
 use Rattle.rtsp_client.proofs.RequestTexts.{play_rest, setup_rest, teardown_rest}
 use Rattle.rtsp_client.proofs.Texts.{put-long}
-use Rattle.rtsp_text.specs.Requests.{IsRequest}
-use Rattle.rtsp_text.specs.RequestTexts.{request_head}
 use Rattle.rtsp_text.proofs.MessageUniqueness.{request_once}
-use Rattle.session.specs.declared.commands.Ask.{Ask}
 use Rattle.session.specs.declared.commands.Ask.TheVariants.{Reply as AskReply, Halt as AskHalt}
 use Rattle.session_laws.specs.EndLaws.{HaltsPlay}
 use Rattle.session.specs.Laws.{IsTeardown, PlayingStage, StateKind as SessionStage, stage_of}
-use Rattle.session_laws.specs.MethodLaws.{setup_in}
-use Rattle.rtsp_replies.specs.Replies.{session_text}
-use Rattle.session.specs.RequestSteps.{after_admission}
-use Rattle.film_streams.specs.SettingRanges.{AreFilms}
-use Rattle.session.specs.SessionStates.{SessionState}
-use Rattle.session_laws.specs.CompleteReplies.{HasValidIds, LeavesRoom, RepliesAreComplete}
-use Rattle.rtsp_replies.specs.Messages.{IsMessage}
+use Rattle.session_laws.specs.CompleteReplies.{LeavesRoom, RepliesAreComplete}
 use Rattle.session_laws.proofs.PauseTeardownLemmas.{teardown_ends}
 use Rattle.session_laws.proofs.CompleteReplyLemmas.{keeps_named, replies_whole}
-use Rattle.conn.specs.InputSteps.{Entered, Outcome, Stage}
 use Rattle.connection_laws.proofs.KeptParts.{answered_names, names_in, replied_names, IsSameSetup, halted_setup}
 use Rattle.connection_laws.proofs.KeptParts.{replied_setup, comes_setup}
 use Rattle.connection_laws.proofs.ReplyReadings.{IsPrinted, printed_w64, teardown_read as read_teardown}
-use Rattle.connection_laws.specs.WatchEnds.{AreAnswers}
 use Rattle.connection_laws.proofs.RequestReplies.{IsNamed, named_still, teardown_replied}
 use Rattle.conn.proofs.StationAnswers.{AnswersAs, NoneAsked, PlayAdmitted, PlayOverflowed, PlayHalted, LookMade}
 use Rattle.conn.proofs.StationAnswers.{answers_as}
 use Rattle.connection_laws.proofs.CourseInduction.{AnsweredRequest, Piece, GoesBack}
-use Rattle.rtsp_client.specs.Replies.{IsAnswer}
 use Rattle.connection_laws.proofs.ClientSetups.{Beginning}
 use Rattle.connection_laws.proofs.Lists.{Each}
 

@@ -1,20 +1,19 @@
 -- Courses joined and parted, and one induction over what a connection does, from its first event on.
 use Rattle.std.proofs.Common.{◌++◌, List, ◌∷◌, refl, subst, ◌≡◌, ℕ, ◌^◌, ◌<◌, ◌≤◌, ◌&&◌, if◌then◌else◌, Bool, true}
 use Rattle.std.proofs.Common.{false, nat_le, max, ap, sym, ◌∙◌, arith, []}
-use Rattle.conn.specs.EventSteps.{Round, Runs, RunsAll}
-use Rattle.conn.specs.InputSteps.{Stage, Answered, ElementStep, IsReplied, Outcome, Passed, SentPart, TakesAll}
-use Rattle.connection_laws.specs.Courses.{IsCourseBetween, IsCourseSplit, asked_by, askings_of, greatest_slot}
-use Rattle.connection_laws.specs.Courses.{round_askings, slot_in, takings_askings, Course, first_stage}
 use Rattle.std.proofs.lemmas.Bool.{ltb-true, ltb-false}
-use Rattle.vod_base.specs.Links.{HeardSlot}
-use Rattle.session.specs.SlotSteps.{after_play, is_between, is_sending, sent_due, sent_slot, after_slot, stepped_in}
-use Rattle.session.specs.SessionStates.{SessionState}
-use Rattle.conn.specs.Films.{rounds_parts, round_parts, takings_parts}
-use Rattle.connection_laws.specs.Plays.{StationRequest, Asks}
-use Rattle.connection_laws.specs.Replies.{replies_of, takings_replies}
-use Rattle.connection_laws.specs.ReplyPlaces.{slots_from, takings_slots}
-use Rattle.connection_laws.proofs.KeptParts.{LastingPart, finish_keeps, reply_keeps, taken_keeps, takes_heard}
 use Rattle.std.proofs.lemmas.List.{append_assoc, append-nil}
+use Rattle.connection_laws.proofs.Terms.{Round, Runs, Stage, Answered, ElementStep, IsReplied, Outcome, Passed}
+use Rattle.connection_laws.proofs.Terms.{SentPart, TakesAll, IsCourseBetween, IsCourseSplit, asked_by, askings_of}
+use Rattle.connection_laws.proofs.Terms.{greatest_slot, round_askings, takings_askings, Course, first_stage, HeardSlot}
+use Rattle.connection_laws.proofs.Terms.{after_play, is_between, is_sending, sent_due, sent_slot, after_slot}
+use Rattle.connection_laws.proofs.Terms.{stepped_in, SessionState, rounds_parts, round_parts, takings_parts}
+use Rattle.connection_laws.proofs.Terms.{StationRequest, Asks, slots_from}
+use Rattle.conn.specs.EventSteps.{RunsAll}
+use Rattle.connection_laws.specs.Courses.{slot_in}
+use Rattle.connection_laws.specs.Replies.{replies_of, takings_replies}
+use Rattle.connection_laws.specs.ReplyPlaces.{takings_slots}
+use Rattle.connection_laws.proofs.KeptParts.{LastingPart, finish_keeps, reply_keeps, taken_keeps, takes_heard}
 use Rattle.conn.proofs.StationAnswers.{ComesAs, BytesCame, SlotCame, comes_as}
 
 -- where a course begins

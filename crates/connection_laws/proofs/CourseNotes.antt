@@ -1,36 +1,22 @@
 -- The notes of a connection's report, event by event: each play that its entries admit has its note.
 use Rattle.std.proofs.Common.{◌≡◌, ℕ, ◌++◌, Bool, false, List, [], ◌∷◌, None, refl, sym, ap, ◌∙◌, Option, Some, map}
 use Rattle.std.proofs.lemmas.List.{append-nil, map-append, append_assoc}
-use Rattle.film_frames.specs.declared.stored_films.Stored.{Stored}
-use Rattle.film_streams.specs.declared.settings.Settings.{Settings}
-use Rattle.session.specs.declared.states.Awaited.{Awaited}
-use Rattle.session.specs.declared.states.Awaited.TheVariants.{Nothing, Halt}
-use Rattle.session.specs.declared.states.AfterHalt.{AfterHalt}
-use Rattle.session.specs.declared.states.State.{State}
-use Rattle.session.specs.declared.states.State.TheVariants.{Init, Ready, Playing, Stopping}
-use Rattle.session.specs.SlotSteps.{kept_of, after_slot, stepped_in}
-use Rattle.session.specs.SessionStates.{SessionState, open_in, open_of, AwaitedAnswer, awaited_answer, HaltAnswer}
-use Rattle.session.specs.SessionStates.{NoAnswer}
-use Rattle.session.specs.SlotTransitions.{IsCarried, after_stop}
-use Rattle.conn.specs.InputSteps.{Outcome, Unasked, Entered, entry_in}
-use Rattle.conn.specs.declared.reports.ConnReport.{ConnReport}
-use Rattle.conn.specs.Agreement.{Activity, HasDone, doings_outcomes}
-use Rattle.connection_laws.specs.Notes.{StationCall, notes_of_calls, notes_of, station_call, kept_later, noted_for}
-use Rattle.connection_laws.specs.Notes.{noted_play, outcome_of, placed_play, placed_plays, PlacedPlay}
+use Rattle.connection_laws.proofs.Terms.{Stored, Settings, Awaited, Nothing, Halt, AfterHalt, State, Init, Ready}
+use Rattle.connection_laws.proofs.Terms.{Playing, Stopping, kept_of, after_slot, stepped_in, SessionState, open_of}
+use Rattle.connection_laws.proofs.Terms.{AwaitedAnswer, awaited_answer, HaltAnswer, NoAnswer, after_stop, Outcome}
+use Rattle.connection_laws.proofs.Terms.{Unasked, Entered, entry_in, ConnReport, Activity, HasDone, doings_outcomes}
+use Rattle.connection_laws.proofs.Terms.{StationCall, notes_of_calls, station_call, kept_later, noted_for, outcome_of}
+use Rattle.connection_laws.proofs.Terms.{Run, play_admitted, PlacedEntry, Setup, entries_in, booked_by, kept_among}
+use Rattle.session.specs.SessionStates.{open_in}
+use Rattle.session.specs.SlotTransitions.{IsCarried}
+use Rattle.connection_laws.specs.Notes.{notes_of, noted_play, placed_play, placed_plays, PlacedPlay}
 use Rattle.connection_laws.proofs.PlayNotes.{HaveSameNotes, note_part, Carries, IsKept, answered_on, asks_play}
-use Rattle.connection_laws.proofs.PlayNotes.{carries_none}
-use Rattle.connection_laws.proofs.PlayNotes.{halt_turn, halted_open, no_note, notes_until, open_note, same_notes}
-use Rattle.connection_laws.proofs.PlayNotes.{unasked_turn, until_append}
+use Rattle.connection_laws.proofs.PlayNotes.{carries_none, halt_turn, halted_open, no_note, notes_until, open_note}
+use Rattle.connection_laws.proofs.PlayNotes.{same_notes, unasked_turn, until_append}
 use Rattle.connection_laws.proofs.StationAnswers.{closing, closes_as, halt_of}
 use Rattle.connection_laws.proofs.CourseTurns.{IsKeptByDoings, doings_kept, all_calls, turns_told}
 use Rattle.connection_laws.proofs.KeptParts.{slot_keeps, state_keeps}
-use Rattle.film_run.specs.declared.runs.Run.{Run}
 use Rattle.slot_calendar.specs.Plays.{Play as Booked}
-use Rattle.admission.specs.Histories.{play_admitted}
-use Rattle.admission.specs.Makers.{PlacedEntry}
-use Rattle.film_streams.specs.declared.setups.Setup.{Setup}
-use Rattle.conn.specs.EventSteps.{entries_in}
-use Rattle.connection_laws.specs.Plays.{booked_by, kept_among}
 use Rattle.session_laws.proofs.RunLemmas.{AskedPlay}
 use Rattle.connection_laws.proofs.RequestEffects.{RequestAnswer, Admission, Refusal, HaltMade, LookAnswer, at_play}
 use Rattle.connection_laws.proofs.RequestEffects.{request_answer}

@@ -2,39 +2,27 @@
 use Rattle.std.proofs.lemmas.List.{append-nil}
 use Rattle.std.proofs.Common.{◌≡◌, ℕ, ◌≤◌, ◌++◌, ◌&&◌, ◌==◌, if◌then◌else◌, Bool, true, false, nat_lt, List, ◌∷◌, refl}
 use Rattle.std.proofs.Common.{ap, sym, ◌∙◌, subst, arith, Option, Some, None, ◌+◌, inl, inr, ◌⊎◌, []}
-use Rattle.conn.proofs.PlayProgress.{reply_state, reply_heard, state_after_slot}
 use Rattle.std.proofs.lemmas.Bool.{eqb-true, true≢false, and_parts, cases_Bool}
-use Rattle.pacer.specs.PacerStates.{PacerState, is_done, IsPacerState}
-use Rattle.plan_cert.specs.PlanSlots.{total_bytes}
-use Rattle.admission.specs.Makers.{PlacedEntry}
-use Rattle.session.specs.declared.states.Awaited.{Awaited}
-use Rattle.session.specs.declared.states.Awaited.TheVariants.{Nothing, Halt}
-use Rattle.session.specs.declared.states.AfterHalt.TheVariants.{Done}
+use Rattle.connection_laws.proofs.Terms.{PacerState, IsPacerState, total_bytes, PlacedEntry, Awaited, Nothing, Halt}
+use Rattle.connection_laws.proofs.Terms.{Done, Setup, State, Playing, Stopping, can_reply, after_play, halted_in}
+use Rattle.connection_laws.proofs.Terms.{is_between, is_sending, sent_due, sent_reply, sent_slot, stepped_in, next_of}
+use Rattle.connection_laws.proofs.Terms.{after_slot, SessionState, AwaitedAnswer, NoAnswer, HaltAnswer, awaited_answer}
+use Rattle.connection_laws.proofs.Terms.{awaited_answer_of, rounds_film, rounds_parts, round_parts, takings_parts}
+use Rattle.connection_laws.proofs.Terms.{Round, Runs, Outcome, Unasked, Entered, SentPart, Stage, after_reply}
+use Rattle.connection_laws.proofs.Terms.{film_bytes, Text, reply_parts, slot_parts, IsCourseBetween, askings_of}
+use Rattle.connection_laws.proofs.Terms.{first_stage, greatest_slot, Course, course_plays, course_film, StationRequest}
+use Rattle.connection_laws.proofs.Terms.{Asks, plays_begun, kept_in, kept_with, plays_of, AreOver, FilmPlay}
+use Rattle.connection_laws.proofs.Terms.{is_answered, after_halt, AreSentAt, slots_from, course_texts, Stored, Settings}
+use Rattle.conn.proofs.PlayProgress.{reply_state, reply_heard, state_after_slot}
+use Rattle.pacer.specs.PacerStates.{is_done}
 use Rattle.session.specs.declared.states.Play.{Play as Played}
-use Rattle.film_streams.specs.declared.setups.Setup.{Setup}
-use Rattle.session.specs.declared.states.State.{State}
-use Rattle.session.specs.declared.states.State.TheVariants.{Playing, Stopping}
-use Rattle.session.specs.SlotSteps.{can_reply, after_play, halted_in, is_between, is_sending, sent_due, sent_reply}
-use Rattle.session.specs.SlotSteps.{sent_slot, stepped_in, next_of, finished_in, after_slot}
-use Rattle.session.specs.SessionStates.{SessionState, AwaitedAnswer, NoAnswer, HaltAnswer, awaited_answer}
-use Rattle.session.specs.SessionStates.{awaited_answer_of}
-use Rattle.conn.specs.Films.{rounds_film, rounds_parts, round_parts, takings_parts}
-use Rattle.conn.specs.EventSteps.{Round, Runs}
-use Rattle.conn.specs.InputSteps.{Outcome, Unasked, Entered, SentPart, Stage, after_reply, film_bytes, Text}
-use Rattle.conn.specs.InputSteps.{reply_parts, slot_parts}
-use Rattle.connection_laws.specs.Courses.{IsCourseBetween, askings_of, first_stage, greatest_slot, Course, course_plays}
-use Rattle.connection_laws.specs.Courses.{course_film}
-use Rattle.connection_laws.specs.Plays.{StationRequest, Asks, plays_begun, kept_in, kept_with}
-use Rattle.connection_laws.specs.Plays.{plays_of, AreOver, FilmPlay}
-use Rattle.connection_laws.proofs.RequestEffects.{Going, Idle, TurnsAs, sends_in}
-use Rattle.connection_laws.proofs.RequestEffects.{answered_after, turns_as, Sends, Ending, no_entry}
+use Rattle.session.specs.SlotSteps.{finished_in}
+use Rattle.connection_laws.proofs.RequestEffects.{Going, Idle, TurnsAs, sends_in, answered_after, turns_as, Sends}
+use Rattle.connection_laws.proofs.RequestEffects.{Ending, no_entry}
 use Rattle.connection_laws.proofs.StationAnswers.{SlotTo, SlotSent, SlotIdle, SlotPast, slot_to}
 use Rattle.connection_laws.proofs.CourseInduction.{IsKeptByCourse, Piece, course_kept, course_piece, event_piece}
 use Rattle.connection_laws.proofs.CourseInduction.{joined, no_piece, request_piece, course_heard, AnsweredRequest}
 use Rattle.connection_laws.proofs.CourseInduction.{parts_piece, asked_piece, begin_of, piece_of, round_kept}
-use Rattle.session.specs.RequestSteps.{is_answered, after_halt}
-use Rattle.connection_laws.specs.ReplyPlaces.{AreSentAt, slots_from}
-use Rattle.connection_laws.specs.Replies.{course_texts}
 use Rattle.connection_laws.proofs.Slots.{sound_waits, turn_sound, waits_after}
 use Rattle.connection_laws.proofs.ReplyBoundaries.{Replying, replying, turn_goes, turn_piece, slot_moves, still_goes}
 use Rattle.connection_laws.proofs.WaitingReplies.{GoesTo, IsHeld, Point, Stand, goes_same, goes_then, point, over_at}
@@ -43,8 +31,6 @@ use Rattle.connection_laws.proofs.JoinedFilms.{IsSound, IsOnTime, play_with, fil
 use Rattle.connection_laws.proofs.TextPlaces.{AreLater, AreSent, StandAt, due_first, from_lower, later_lower}
 use Rattle.connection_laws.proofs.TextPlaces.{with_pending}
 use Rattle.conn.proofs.ReplyPlacement.{film_bytes-append, takings_film}
-use Rattle.film_frames.specs.declared.stored_films.Stored.{Stored}
-use Rattle.film_streams.specs.declared.settings.Settings.{Settings}
 use Rattle.conn.proofs.StationAnswers.{FinishesAs, NothingLeft, DoneHalted, ComesAs, BytesCame, SlotCame, IsHaltEntry}
 
 -- what is sent is on time, and a reply that waits is held up since its request was processed

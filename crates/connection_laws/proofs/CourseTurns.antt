@@ -2,30 +2,25 @@
 use Rattle.std.proofs.Common.{◌≡◌, ℕ, ◌++◌, if◌then◌else◌, Bool, true, false, List, ◌∷◌, Option, map, length, ap, refl}
 use Rattle.std.proofs.Common.{subst, sym, ◌∙◌, ◌+◌, ◌&&◌, arith, []}
 use Rattle.std.proofs.lemmas.List.{map-append}
-use Rattle.film_frames.specs.declared.stored_films.Stored.{Stored}
-use Rattle.film_streams.specs.declared.settings.Settings.{Settings}
-use Rattle.session.specs.declared.states.Awaited.TheVariants.{Nothing}
-use Rattle.session.specs.SlotSteps.{can_reply, sent_reply, after_slot, after_play, is_between, is_sending, is_taken}
-use Rattle.session.specs.SlotSteps.{missed_between, sent_due, sent_slot, start_in, stepped_in}
-use Rattle.session.specs.SessionStates.{SessionState, OpenBooking, open_of, awaited_answer}
-use Rattle.conn.specs.EventSteps.{Ending, Overfull, AtElement, InSlot, InReply, Ends, Round, Runs, RunsAll}
-use Rattle.conn.specs.EventSteps.{ending_outcomes, round_outcomes, rounds_outcomes, takings_outcomes, HasFailedInSlot}
-use Rattle.conn.specs.InputSteps.{Outcome, Unasked, Stage, ElementStep, Passed, Answered, TakesAll, after_reply}
-use Rattle.conn.specs.InputSteps.{HasHeard, IsClosed}
-use Rattle.conn.specs.declared.reports.ConnEnd.{ConnEnd}
-use Rattle.conn.specs.declared.reports.ConnReport.{ConnReport}
-use Rattle.conn.specs.Agreement.{Activity, HasDone, doings_outcomes}
-use Rattle.connection_laws.specs.Courses.{first_stage}
-use Rattle.connection_laws.specs.Notes.{StationCall, asking_at, ending_calls, outcome_of, round_calls, rounds_calls}
-use Rattle.connection_laws.specs.Notes.{taken_calls, station_call, station_calls, ending_missed, missed_by, missed_in}
-use Rattle.connection_laws.specs.Notes.{rounds_missed}
+use Rattle.std.proofs.lemmas.Bool.{and_from}
+use Rattle.connection_laws.proofs.Terms.{Stored, Settings, Nothing, can_reply, sent_reply, after_slot, after_play}
+use Rattle.connection_laws.proofs.Terms.{is_between, is_sending, is_taken, sent_due, sent_slot, stepped_in}
+use Rattle.connection_laws.proofs.Terms.{SessionState, OpenBooking, open_of, awaited_answer, Ending, AtElement, InReply}
+use Rattle.connection_laws.proofs.Terms.{Round, Runs, ending_outcomes, round_outcomes, rounds_outcomes}
+use Rattle.connection_laws.proofs.Terms.{takings_outcomes, HasFailedInSlot, Outcome, Unasked, Stage, ElementStep}
+use Rattle.connection_laws.proofs.Terms.{Passed, Answered, TakesAll, after_reply, HasHeard, IsClosed, ConnEnd}
+use Rattle.connection_laws.proofs.Terms.{ConnReport, Activity, HasDone, doings_outcomes, first_stage, StationCall}
+use Rattle.connection_laws.proofs.Terms.{outcome_of, station_call}
+use Rattle.session.specs.SlotSteps.{missed_between, start_in}
+use Rattle.conn.specs.EventSteps.{Overfull, InSlot, Ends, RunsAll}
+use Rattle.connection_laws.specs.Notes.{asking_at, ending_calls, round_calls, rounds_calls, taken_calls, station_calls}
+use Rattle.connection_laws.specs.Notes.{ending_missed, missed_by, missed_in, rounds_missed}
 use Rattle.connection_laws.proofs.CourseSteps.{Stands, course_stands, round_stands, first_stands}
 use Rattle.connection_laws.proofs.RequestEffects.{answered_after}
 use Rattle.connection_laws.proofs.CourseInduction.{follows_all}
 use Rattle.session.proofs.StepInvariantLemmas.{nothing_of}
 use Rattle.conn.proofs.ReplyContents.{CourseEnd}
 use Rattle.connection_laws.proofs.StationAnswers.{closing, closes_as}
-use Rattle.std.proofs.lemmas.Bool.{and_from}
 use Rattle.session_laws.specs.PlayLaws.{slots_missed}
 use Rattle.session_laws.proofs.SlotCountLemmas.{missed_is}
 use Rattle.connection_laws.proofs.KeptParts.{LastingPart, finish_keeps, reply_keeps, request_keeps, takes_keep}

@@ -1,14 +1,13 @@
 -- The two curves of a film, as a server's plan and a client's meter have them.
-use Rattle.std.proofs.Common.{◌≡◌, ℕ, zero, suc, ◌+◌, ◌≤◌, nat_lt, cond, List, [], ◌∷◌, ◌++◌, length, take}
-use Rattle.std.proofs.Common.{sum_by, get_or, refl, ap, ◌∙◌, arith}
+use Rattle.std.proofs.Common.{◌≡◌, ℕ, zero, suc, ◌+◌, ◌≤◌, nat_lt, cond, List, [], ◌∷◌, ◌++◌, length, take, sum_by}
+use Rattle.std.proofs.Common.{get_or, refl, ap, ◌∙◌, arith}
 use Rattle.std.specs.List.{range_with_len}
 use Rattle.std.proofs.lemmas.List.{length-take-le, take_all, take_more}
+use Rattle.connection_laws.proofs.Terms.{Wish, IsBetween}
 use Rattle.wire_curve.specs.declared.film.Timing.{Timing}
 use Rattle.wire_curve.specs.FilmCurves.{due_slot, low_at, up_at, used_before as wire_used}
 use Rattle.wire_curve.proofs.PictureSums.{sum_by-range_more}
-use Rattle.rtsp_client.specs.declared.watch_request.Wish.{Wish}
 use Rattle.rtsp_client.specs.Meters.{use_slot, used_before}
-use Rattle.rtsp_client.specs.MeterGuarantee.{IsBetween}
 
 -- one unit more
 used_snoc : (wish : Wish) (time slot unit : ℕ) (sizes : List ℕ) (x : ℕ)

@@ -5,30 +5,23 @@ use Rattle.std.proofs.Common.{drop, get_or, refl, ap, sym, ◌∙◌, subst, inl
 use Rattle.std.proofs.lemmas.Bool.{both_ways, true≢false}
 use Rattle.std.proofs.lemmas.List.{append-nil, append_assoc, take-append-le, drop-append-le, length-append}
 use Rattle.std.proofs.lemmas.List.{get_or_append_left}
-use Rattle.interleave.specs.Heads.{is_line_end}
-use Rattle.interleave.specs.Elements.{IsFirst, StartsBlock, StartsMessage, block_length}
-use Rattle.interleave.specs.Streams.{IsElementLength, LineEnd, WholeBlock, WholeMessage}
-use Rattle.interleave.specs.declared.elements.Step.TheVariants.{More, Request}
+use Rattle.connection_laws.proofs.Terms.{is_line_end, IsFirst, StartsMessage, IsElementLength, LineEnd, WholeBlock}
+use Rattle.connection_laws.proofs.Terms.{WholeMessage, More, Request, Stored, Hears, AreFilms, SessionState, IsStopped}
+use Rattle.connection_laws.proofs.Terms.{takings_bytes, takings_outcomes, Answered, IsAskAnswered, IsReplied, Outcome}
+use Rattle.connection_laws.proofs.Terms.{SentPart, Passed, Stage, ElementStep, TakesAll, after_reply, parts_bytes}
+use Rattle.connection_laws.proofs.Terms.{reply_parts, stage, ConnEnd, TornDown, HeadTooLong, BodyTooLong}
+use Rattle.connection_laws.proofs.Terms.{AllLackMemoryAlike, AreSameAnswers, HeardRequest, IsDrained, LackMemoryAlike}
+use Rattle.connection_laws.proofs.Terms.{answer_in, answers_in, heard_requests_taken, IoEvent}
+use Rattle.interleave.specs.Elements.{StartsBlock, block_length}
 use Rattle.interleave.specs.declared.elements.DemuxFault.TheVariants.{HeadTooLong as LongHead, BodyTooLong as LongBody}
 use Rattle.interleave.proofs.ElementStability.{StartsBlock-append, block_length-append, whole_stays}
 use Rattle.interleave.proofs.StreamElements.{element_once, tells_none}
 use Rattle.interleave.proofs.ElementUniqueness.{clash_block_request, total_once}
-use Rattle.film_frames.specs.declared.stored_films.Stored.{Stored}
-use Rattle.session.specs.RequestSteps.{Hears}
-use Rattle.film_streams.specs.SettingRanges.{AreFilms}
-use Rattle.session.specs.SessionStates.{SessionState}
 use Rattle.session.proofs.RequestEffectLemmas.{hears_ground}
 use Rattle.conn.proofs.CourseSteps.{stage_is}
-use Rattle.conn.specs.EventSteps.{IsStopped, takings_bytes, takings_outcomes}
-use Rattle.conn.specs.InputSteps.{Answered, IsAskAnswered, IsNext, IsPassed, IsReplied, Outcome, SentPart, Passed}
-use Rattle.conn.specs.InputSteps.{Stage, ElementStep, TakesAll, after_reply, parts_bytes, reply_parts, stage}
-use Rattle.conn.specs.declared.reports.ConnEnd.{ConnEnd}
-use Rattle.conn.specs.declared.reports.ConnEnd.TheVariants.{TornDown, HeadTooLong, BodyTooLong}
-use Rattle.connection_laws.specs.InputSplits.{AllLackMemoryAlike, AreSameAnswers, HeardRequest, IsDrained}
-use Rattle.connection_laws.specs.InputSplits.{LackMemoryAlike, answer_in, answers_in, heard_requests_taken}
+use Rattle.conn.specs.InputSteps.{IsNext, IsPassed}
 use Rattle.connection_laws.proofs.KeptParts.{answered_names, replied_names}
 use Rattle.connection_laws.proofs.UniqueResults.{AnswersAlike, answers_same, hears_same}
-use Rattle.vod_base.specs.Links.{IoEvent}
 
 -- a request that was processed, what was asked, and what came of it
 pub record StationCall : Type 0 where

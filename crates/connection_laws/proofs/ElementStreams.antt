@@ -4,9 +4,9 @@ use Rattle.std.proofs.Common.{sym, ap, subst, ◌∙◌, arith, inl, inr}
 use Rattle.std.proofs.lemmas.Bool.{cases_lt, le-leb, lt-leb}
 use Rattle.std.proofs.lemmas.List.{append-nil, length-take-le, take-append-le, take-append-drop, take_all}
 use Rattle.std.proofs.Math.Seq.{drop-append-add, take-append-add, take-nil}
-use Rattle.film_frames.specs.FramedRuns.{count_ended}
-use Rattle.film_frames.specs.Tracks.{framed_bytes}
-use Rattle.interleave.specs.Streams.{AreInputElements, IsElementLength, IsStream, LineEnd, WholeBlock, WholeMessage}
+use Rattle.connection_laws.proofs.Terms.{count_ended, framed_bytes, AreInputElements, IsElementLength, LineEnd}
+use Rattle.connection_laws.proofs.Terms.{WholeBlock, WholeMessage}
+use Rattle.interleave.specs.Streams.{IsStream}
 use Rattle.interleave.proofs.StreamElements.{TwoCuts, cut_more, cuts_agree, element_once, element_stays, element_within}
 use Rattle.connection_laws.proofs.Lists.{Each}
 use Rattle.connection_laws.proofs.PieceCounts.{at_less, at_more, rest_at}

@@ -1,42 +1,30 @@
 -- The promise from a server to its client's meter.
-use Rattle.std.proofs.Common.{◌≡◌, ℕ, suc, ◌+◌, ◌-◌, ◌<◌, ◌≤◌, min, List, ◌∷◌, ◌++◌, length, take, map, sum, refl}
-use Rattle.std.proofs.Common.{sym, ap, subst, ◌∙◌, arith, inl, inr, []}
-use Rattle.conn.proofs.ReplyContents.{parts-more}
+use Rattle.std.proofs.Common.{◌≡◌, ℕ, suc, ◌+◌, ◌-◌, ◌<◌, ◌≤◌, min, List, ◌∷◌, ◌++◌, length, take, map, sum, refl, sym}
+use Rattle.std.proofs.Common.{ap, subst, ◌∙◌, arith, inl, inr, []}
 use Rattle.std.proofs.lemmas.Bool.{cases_lt}
 use Rattle.std.proofs.lemmas.List.{length-append, length-map, length-take, take_all, take-take}
 use Rattle.std.proofs.lemmas.List.Sums.{sum_by-take-le}
-use Rattle.vod_base.specs.Links.{IoEvent, Sent}
-use Rattle.mpeg_scan.specs.declared.films.Film.{Film}
-use Rattle.mpeg_scan.specs.PictureRates.{picture_time}
-use Rattle.rtp_pack.specs.declared.reports.Identity.{Identity}
-use Rattle.interleave.specs.Streams.{WholeBlock}
-use Rattle.film_frames.specs.declared.stored_films.Stored.{Stored}
+use Rattle.connection_laws.proofs.Terms.{IoEvent, Sent, Film, picture_time, Identity, WholeBlock, Stored, run_of}
+use Rattle.connection_laws.proofs.Terms.{framed_bytes, IsPlan, total_bytes, wire_size, stored_sizes, first_slots}
+use Rattle.connection_laws.proofs.Terms.{rounds_film, rounds_parts, Comes, Round, rounds_doings, Outcome, SentPart}
+use Rattle.connection_laws.proofs.Terms.{Stage, film_bytes, Course, IsCourseBetween, askings_of, greatest_slot}
+use Rattle.connection_laws.proofs.Terms.{rounds_bytes, FilmPlay, due_of, film_of, film_written, plays_of, PlacedText}
+use Rattle.connection_laws.proofs.Terms.{placed_text, placed_texts, text_of, insert_texts, course_texts, Wish}
+use Rattle.connection_laws.proofs.Terms.{IsBetween, latest_slot, sent_bytes, AreAfter, HasPlayedWhole, IsWholePlay}
+use Rattle.connection_laws.proofs.Terms.{film_blocks, playback_of, whole_run}
+use Rattle.conn.proofs.ReplyContents.{parts-more}
 use Rattle.film_frames.specs.Laws.{AreBlocks}
-use Rattle.film_frames.specs.FramedRuns.{pieces_in, run_of}
-use Rattle.film_frames.specs.Tracks.{framed_bytes}
+use Rattle.film_frames.specs.FramedRuns.{pieces_in}
 use Rattle.film_frames.proofs.EndedPieceLemmas.{are-blocks}
-use Rattle.plan_cert.specs.Plan.{IsPlan}
-use Rattle.plan_cert.specs.PlanSlots.{plan_slots, total_bytes}
+use Rattle.plan_cert.specs.PlanSlots.{plan_slots}
 use Rattle.plan_cert.proofs.SlotSums.{sum-plan_slots}
-use Rattle.film_frames.specs.Pieces.{wire_size}
 use Rattle.film_run.specs.Plans.{rest_sizes}
-use Rattle.film_run.specs.Units.{stored_sizes}
 use Rattle.film_run.proofs.PlanLemmas.{sending-keeps}
-use Rattle.pacer.specs.PacerStates.{first_slots}
-use Rattle.conn.specs.Films.{rounds_film, rounds_parts}
-use Rattle.conn.specs.EventSteps.{Comes, Round, rounds_doings}
-use Rattle.conn.specs.InputSteps.{Outcome, SentPart, Stage, film_bytes}
 use Rattle.conn.proofs.CurveBounds.{planned_between}
-use Rattle.connection_laws.specs.Courses.{Course, IsCourseBetween, askings_of, greatest_slot, rounds_bytes}
-use Rattle.connection_laws.specs.Plays.{FilmPlay, due_of, film_of, film_written, plays_of}
-use Rattle.connection_laws.specs.Replies.{PlacedText, placed_text, placed_texts, text_of, insert_texts, course_texts}
 use Rattle.connection_laws.proofs.CourseSteps.{film_written_is, Stands, course_stands, first_stands, film_sent}
 use Rattle.connection_laws.proofs.CourseInduction.{course_heard, parts_of, begin_of}
 use Rattle.connection_laws.proofs.ReplyOrder.{bytes_woven, rounds_sent}
-use Rattle.rtsp_client.specs.declared.watch_request.Wish.{Wish}
-use Rattle.rtsp_client.specs.MeterGuarantee.{IsBetween}
-use Rattle.connection_laws.specs.LinkDelivery.{IsWrittenBy, latest_slot, sent_bytes}
-use Rattle.connection_laws.specs.WholePlays.{AreAfter, HasPlayedWhole, IsWholePlay, film_blocks, playback_of, whole_run}
+use Rattle.connection_laws.specs.LinkDelivery.{IsWrittenBy}
 use Rattle.connection_laws.proofs.Curves.{curves_same}
 use Rattle.connection_laws.proofs.FilmReading.{blocks_sum, film_sizes, run_blocks, WholeStream}
 use Rattle.connection_laws.proofs.MeterInput.{AreTexts, Stream, all_of, text_is, IsText}

@@ -1,22 +1,20 @@
 -- What was sent where a send failed is a prefix of what a longer course sends.
 use Rattle.std.proofs.Common.{◌≡◌, ℕ, ◌+◌, ◌++◌, ◌&&◌, if◌then◌else◌, Bool, true, false, List, ◌∷◌, length, drop, arith}
 use Rattle.std.proofs.Common.{refl, sym, ap, subst, ◌∙◌, [], inl, inr}
-use Rattle.conn.proofs.CourseSteps.{takings_bytes-append}
 use Rattle.std.proofs.lemmas.Bool.{and_from, cond-true}
 use Rattle.std.proofs.lemmas.List.{append_assoc, append-nil, length-append, take_at}
 use Rattle.std.proofs.Math.Seq.{take-append-add}
-use Rattle.vod_base.specs.Links.{HeardSlot}
-use Rattle.admission.specs.declared.entries.Answer.TheVariants.{Halted}
+use Rattle.connection_laws.proofs.Terms.{HeardSlot, Halted, PlacedEntry, Awaited, after_halt, can_reply, is_between}
+use Rattle.connection_laws.proofs.Terms.{is_sending, is_taken, step_bytes, stepped_in, SessionState, awaited_answer}
+use Rattle.connection_laws.proofs.Terms.{awaited_answer_of, HasFailedInSlot, IsPrefixOf, Round, Runs, round_bytes}
+use Rattle.connection_laws.proofs.Terms.{takings_bytes, Answered, Entered, Outcome, Stage, ElementStep, TakesAll, Text}
+use Rattle.connection_laws.proofs.Terms.{Unasked, after_reply, due_parts, parts_bytes, reply_parts, slot_parts, stage}
+use Rattle.connection_laws.proofs.Terms.{Course, rounds_bytes}
+use Rattle.conn.proofs.CourseSteps.{takings_bytes-append}
 use Rattle.admission.specs.declared.entries.Command.TheVariants.{Halt as HaltCommand}
-use Rattle.admission.specs.Makers.{PlacedEntry}
-use Rattle.session.specs.declared.states.Awaited.{Awaited}
-use Rattle.session.specs.RequestSteps.{after_halt}
-use Rattle.session.specs.SlotSteps.{can_reply, due_bytes, is_between, is_sending, is_taken, step_bytes, stepped_in}
-use Rattle.session.specs.SessionStates.{SessionState, awaited_answer, awaited_answer_of}
-use Rattle.conn.specs.EventSteps.{EndsInReply, HasFailedInSlot, IsPrefixOf, Round, Runs, round_bytes, takings_bytes}
-use Rattle.conn.specs.InputSteps.{Answered, Entered, Film, IsFinished, Outcome, Stage, ElementStep, TakesAll, Text}
-use Rattle.conn.specs.InputSteps.{Unasked, after_reply, due_parts, parts_bytes, reply_parts, slot_parts, stage}
-use Rattle.connection_laws.specs.Courses.{Course, rounds_bytes}
+use Rattle.session.specs.SlotSteps.{due_bytes}
+use Rattle.conn.specs.EventSteps.{EndsInReply}
+use Rattle.conn.specs.InputSteps.{Film, IsFinished}
 use Rattle.connection_laws.specs.Failures.{IsCutShort}
 use Rattle.connection_laws.proofs.CourseSteps.{Stands, course_stands, first_stands, AsksDone, slot_asks}
 use Rattle.connection_laws.proofs.CourseInduction.{follows_more, begin_of}

@@ -3,34 +3,26 @@ use Rattle.std.proofs.Common.{◌≡◌, ℕ, ◌+◌, ◌≤◌, List, [], ◌�
 use Rattle.std.proofs.Common.{append_assoc, arith, inl, inr, ◌⊎◌, ◌-◌, ◌<◌, ◌==◌, true, nat_lt, min, length, map, sum}
 use Rattle.std.proofs.Common.{Some, slice_get}
 use Rattle.std.proofs.lemmas.List.{take-append-drop, length-take-le, take_all}
-use Rattle.film_frames.specs.FramedRuns.{count_ended, FramedRun, blocks_from, run_of, run_pieces}
-use Rattle.film_frames.specs.Tracks.{framed_bytes}
-use Rattle.rtsp_client.specs.declared.watch_request.Wish.{Wish}
-use Rattle.rtsp_client.specs.declared.watch_request.Watched.{Watched}
-use Rattle.rtsp_client.specs.Answers.{events_of_elements, element_events, cut_bytes, payloads_of}
-use Rattle.rtsp_client.specs.ClientHistory.{ClientEvent, Frame, Reply, Report, History, end_ms, first_frame, frames}
-use Rattle.rtsp_client.specs.ClientHistory.{payloads, bytes_received, sizes}
+use Rattle.std.proofs.lemmas.Bool.{cases_lt, cond-false, eqb-true, ltb-true, ne_eqb, and_parts}
+use Rattle.std.proofs.lemmas.List.Sums.{sum_by-take-le}
+use Rattle.connection_laws.proofs.Terms.{count_ended, FramedRun, blocks_from, run_of, run_pieces, framed_bytes, Wish}
+use Rattle.connection_laws.proofs.Terms.{Watched, events_of_elements, element_events, cut_bytes, payloads_of}
+use Rattle.connection_laws.proofs.Terms.{ClientEvent, Frame, Reply, Report, History, end_ms, first_frame, frames}
+use Rattle.connection_laws.proofs.Terms.{payloads, bytes_received, sizes, Film, AreLaid, picture_time, Identity}
+use Rattle.connection_laws.proofs.Terms.{frames_among, pieces_of, wire_size, WatchStage, begins_film, is_complete}
+use Rattle.connection_laws.proofs.Terms.{time_in, units_until, IsFilmHeard}
 use Rattle.connection_laws.proofs.ClientInput.{IsDrained, no_sum}
 use Rattle.connection_laws.proofs.MeterInput.{AreTexts, Stream, all_of, begun_sum, two_moments, IsReadingOf, film_place}
 use Rattle.connection_laws.proofs.ElementStreams.{cut_front}
 use Rattle.connection_laws.proofs.HistorySums.{IsOneBlock, AreOneBlocks, Sum, replies_grow, step, steps, sum_of}
 use Rattle.connection_laws.proofs.HistorySums.{blocks_received, blocks_same, steps_payloads}
-use Rattle.std.proofs.lemmas.Bool.{cases_lt, cond-false, eqb-true, ltb-true, ne_eqb, and_parts}
-use Rattle.std.proofs.lemmas.List.Sums.{sum_by-take-le}
-use Rattle.mpeg_scan.specs.declared.films.Film.{Film}
 use Rattle.mpeg_scan.specs.declared.units.Unit.{Unit as PictureUnit}
-use Rattle.mpeg_scan.specs.Layout.{AreLaid}
-use Rattle.mpeg_scan.specs.PictureRates.{picture_time}
 use Rattle.mpeg_scan.proofs.FirstUnitLemmas.{film-begins, film-some}
-use Rattle.rtp_pack.specs.declared.reports.Identity.{Identity}
-use Rattle.film_frames.specs.Laws.{frames_among, payloads as joined}
-use Rattle.film_frames.specs.Pieces.{pieces_of, wire_size}
+use Rattle.film_frames.specs.Laws.{payloads as joined}
 use Rattle.film_frames.proofs.PayloadLemmas.{FirstAndLast, comes-back, run-sum}
 use Rattle.film_frames.proofs.FilmPieceLemmas.{laid-film}
-use Rattle.rtsp_client.specs.WatchCourses.{WatchStage}
-use Rattle.rtsp_client.specs.Films.{begins_film, is_complete, time_in, units, units_until}
+use Rattle.rtsp_client.specs.Films.{units}
 use Rattle.rtsp_client.specs.Meters.{time}
-use Rattle.rtsp_client.specs.MeterGuarantee.{IsFilmHeard}
 use Rattle.rtsp_client.proofs.OutputPayloads.{payloads-are}
 use Rattle.connection_laws.proofs.PieceCounts.{count_whole}
 use Rattle.connection_laws.proofs.FirstFrames.{HasGoneOn, first_frame_is, first_good, frame_time_is}

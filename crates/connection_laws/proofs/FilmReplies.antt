@@ -5,28 +5,20 @@ use Rattle.std.proofs.Common.{sym, ap, ap₂, subst, ◌∙◌, arith}
 use Rattle.std.specs.List.{list_all}
 use Rattle.std.proofs.lemmas.Bool.{and_parts}
 use Rattle.std.proofs.Math.Nat.{div-mul-le_self, mul-le-mul}
-use Rattle.mpeg_scan.specs.StartCodes.{read_after}
-use Rattle.mpeg_scan.specs.PictureRates.{picture_time}
-use Rattle.mpeg_scan.specs.declared.films.Film.{Film}
+use Rattle.connection_laws.proofs.Terms.{read_after, picture_time, Film, play_text, is_url_byte, Field, field_line}
+use Rattle.connection_laws.proofs.Terms.{IsFilmAt, length_ms, field, play_fields, setup_in, SessionState}
+use Rattle.connection_laws.proofs.Terms.{has_session_in, HasValidIds, IsMessage, IsRead, HasHeard, IsAskAnswered}
+use Rattle.connection_laws.proofs.Terms.{Outcome, Entered}
 use Rattle.mpeg_scan.proofs.FilmBoundLemmas.{film-rate}
 use Rattle.film_frames.proofs.FilmPieceLemmas.{film-few}
-use Rattle.rtsp_client.specs.Requests.{play_text}
 use Rattle.rtsp_client.proofs.PictureTimes.{time_bounds}
-use Rattle.rtsp_text.specs.Grammar.{is_url_byte}
-use Rattle.rtsp_text.specs.Replies.{Field, field_line, reply_front, reply_text}
+use Rattle.rtsp_text.specs.Replies.{reply_front, reply_text}
 use Rattle.rtsp_text.proofs.UrlBytes.{name_in_url}
 use Rattle.vod_base.specs.Names.{good_name, is_name_byte}
-use Rattle.film_streams.specs.Films.{IsFilmAt, length_ms}
-use Rattle.rtsp_replies.specs.Replies.{field, play_fields, started_text}
-use Rattle.session_laws.specs.MethodLaws.{setup_in}
-use Rattle.session.specs.SessionStates.{SessionState, has_session_in}
+use Rattle.rtsp_replies.specs.Replies.{started_text}
 use Rattle.session.specs.SlotSteps.{admitted_in}
-use Rattle.session_laws.specs.CompleteReplies.{HasValidIds}
-use Rattle.rtsp_replies.specs.Messages.{IsMessage}
 use Rattle.rtsp_text.proofs.LineBounds.{all-drop, all-take}
 use Rattle.rtsp_text.proofs.ReplyTexts.{front_field, whole_reply}
-use Rattle.rtsp_fields.specs.Urls.{IsRead}
-use Rattle.conn.specs.InputSteps.{HasHeard, IsAskAnswered, Outcome, Entered}
 use Rattle.connection_laws.proofs.CompleteReplies.{admitted_from, id_printed}
 use Rattle.connection_laws.proofs.KeptParts.{IsSameSetup, answered_names, names_in}
 use Rattle.connection_laws.proofs.ReplyReadings.{IsPrinted, IsPlayAnswer, play_answer}

@@ -4,19 +4,16 @@ use Rattle.std.proofs.Common.{cond, List, [], ◌∷◌, ◌++◌, length, take,
 use Rattle.std.proofs.Common.{append_assoc, min, arith, inl, inr}
 use Rattle.std.proofs.lemmas.Bool.{cases_eq, cond-true, cond-false, eq-eqb, ne_eqb, leb-true, and_parts}
 use Rattle.std.proofs.lemmas.List.{get_or-drop, get_or-take, length-take}
+use Rattle.connection_laws.proofs.Terms.{picture_time, Packet, unit_packets, pieces_of, unit_pieces, FramedRun}
+use Rattle.connection_laws.proofs.Terms.{blocks_from, payload, GoOn, GoesOn, history_after, events_of_elements}
+use Rattle.connection_laws.proofs.Terms.{begins_film, is_complete, time_in, units_until, History, ClientEvent, Frame}
+use Rattle.connection_laws.proofs.Terms.{Report, end_ms, first_frame, frames, is_playing}
 use Rattle.mpeg_scan.specs.declared.units.Unit.{Unit as PictureUnit}
 use Rattle.mpeg_scan.specs.Layout.{BeginsSequence, IsLaid}
-use Rattle.mpeg_scan.specs.PictureRates.{picture_time}
-use Rattle.rtp_pack.specs.declared.payloads.Packet.{Packet}
 use Rattle.rtp_pack.specs.Heads.{head_of}
-use Rattle.rtp_pack.specs.Packets.{DoCover, unit_packets}
+use Rattle.rtp_pack.specs.Packets.{DoCover}
 use Rattle.rtp_pack.proofs.UnitPacketLemmas.{packets-cover}
-use Rattle.film_frames.specs.Pieces.{pieces_of, unit_pieces}
-use Rattle.film_frames.specs.FramedRuns.{FramedRun, blocks_from, payload}
-use Rattle.rtsp_client.specs.Answers.{GoOn, GoesOn, history_after, events_of_elements}
-use Rattle.rtsp_client.specs.Films.{begins_film, is_complete, is_first_good, is_next_good, time_in, units_until}
-use Rattle.rtsp_client.specs.ClientHistory.{History, ClientEvent, Frame, Report, end_ms, first_frame, frames}
-use Rattle.rtsp_client.specs.ClientHistory.{is_playing}
+use Rattle.rtsp_client.specs.Films.{is_first_good, is_next_good}
 use Rattle.connection_laws.proofs.Blocks.{frame_block, frame_blocks, frame_moment, frames_one, frames_after}
 use Rattle.connection_laws.proofs.Blocks.{octets_after, report_block, report_if, report_moment, RunFrom}
 use Rattle.connection_laws.proofs.HistorySums.{IsOneBlock, AreOneBlocks, Sum, blocks_first, step, steps}

@@ -2,44 +2,24 @@
 -- session was set up.
 use Rattle.std.proofs.Common.{◌≡◌, ℕ, [], List, refl, ap, subst, ◌∙◌, arith, ◌≤◌, Some, None, codes, string_bytes, sym}
 use Rattle.std.proofs.lemmas.List.{length-map}
-use Rattle.mpeg_scan.specs.StartCodes.{read_after}
+use Rattle.connection_laws.proofs.Terms.{read_after, Stored, wire_size, Segment, stored_sizes, Wish, IsWish, Settings}
+use Rattle.connection_laws.proofs.Terms.{Counts, Setup, StreamSource, playback_of, whole_run, film_blocks, run_pieces}
+use Rattle.connection_laws.proofs.Terms.{Run, picture_time, Identity, play_parts, film_url, play_text, header_value}
+use Rattle.connection_laws.proofs.Terms.{IsRequest, request_head, Prepared, IsFilmAt, identity_of, SessionState}
+use Rattle.connection_laws.proofs.Terms.{FilmPlay}
 use Rattle.mpeg_scan.proofs.FilmBoundLemmas.{film-rate}
-use Rattle.film_frames.specs.declared.stored_films.Stored.{Stored}
-use Rattle.film_frames.specs.Pieces.{wire_size}
 use Rattle.film_frames.proofs.FilmPieceLemmas.{film-bound, film-few}
 use Rattle.film_run.specs.declared.plans.Playback.{Playback}
 use Rattle.film_run.specs.Laws.{IsSending}
 use Rattle.film_run.specs.Plans.{IsPlanOf}
 use Rattle.film_run.specs.Runs.{Fits}
-use Rattle.plan_cert.specs.declared.Segment.{Segment}
-use Rattle.film_run.specs.Units.{stored_sizes}
-use Rattle.rtsp_client.specs.declared.watch_request.Wish.{Wish}
-use Rattle.rtsp_client.specs.WatchRequests.{IsWish}
 use Rattle.rtsp_client.proofs.PictureTimes.{time_bounds}
-use Rattle.film_streams.specs.declared.settings.Settings.{Settings}
-use Rattle.film_streams.specs.declared.stream_numbers.Counts.{Counts}
-use Rattle.film_streams.specs.declared.setups.Setup.{Setup}
-use Rattle.film_streams.specs.declared.stream_numbers.StreamSource.{StreamSource}
 use Rattle.session.specs.RunRequests.{IsPlayable, playback_of as session_playback}
-use Rattle.connection_laws.specs.WholePlays.{IsSetUpFor, playback_of, whole_run, film_blocks}
-use Rattle.film_frames.specs.FramedRuns.{run_pieces}
-use Rattle.film_run.specs.declared.runs.Run.{Run}
-use Rattle.mpeg_scan.specs.PictureRates.{picture_time}
-use Rattle.rtp_pack.specs.declared.reports.Identity.{Identity}
-use Rattle.rtsp_client.specs.RequestParts.{play_parts}
-use Rattle.rtsp_client.specs.Requests.{film_url, play_text}
+use Rattle.connection_laws.specs.WholePlays.{IsSetUpFor}
 use Rattle.rtsp_client.proofs.RequestGrammar.{play-asked}
-use Rattle.rtsp_text.specs.Fields.{header_value}
-use Rattle.rtsp_text.specs.Requests.{IsRequest}
-use Rattle.rtsp_text.specs.RequestTexts.{request_head}
 use Rattle.rtsp_text.proofs.MessageUniqueness.{request_once}
-use Rattle.session.specs.declared.states.Prepared.{Prepared}
-use Rattle.film_streams.specs.Films.{IsFilmAt}
-use Rattle.film_streams.specs.StreamNumbers.{identity_of}
 use Rattle.session.specs.RequestedPlans.{IsPlannedRun}
-use Rattle.session.specs.SessionStates.{SessionState}
 use Rattle.session_laws.proofs.WholeFilmLemmas.{asked-whole}
-use Rattle.connection_laws.specs.Plays.{FilmPlay}
 use Rattle.session_laws.proofs.PlayInReadyLemmas.{IsPlayHeard}
 use Rattle.connection_laws.proofs.ClientSetups.{IsSettled, range_is, Beginning}
 use Rattle.connection_laws.proofs.SetupOnly.{Ground, IsUnbegun, IsWaiting}

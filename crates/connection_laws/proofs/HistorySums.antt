@@ -1,15 +1,13 @@
 -- What a client's history comes to, but for its slots: a sum that each moment adds to.
-use Rattle.std.proofs.Common.{◌≡◌, ℕ, ◌+◌, ◌<◌, ◌≤◌, ◌⊎◌, ◌==◌, ◌&&◌, Bool, true, false, not, nat_lt}
-use Rattle.std.proofs.Common.{if◌then◌else◌, List, [], ◌∷◌, ◌++◌, length, drop, get_or, unwrap_or, refl, sym}
-use Rattle.std.proofs.Common.{subst, ◌∙◌, append_assoc, arith, inl, inr}
+use Rattle.std.proofs.Common.{◌≡◌, ℕ, ◌+◌, ◌<◌, ◌≤◌, ◌⊎◌, ◌==◌, ◌&&◌, Bool, true, false, not, nat_lt, if◌then◌else◌}
+use Rattle.std.proofs.Common.{List, [], ◌∷◌, ◌++◌, length, drop, get_or, unwrap_or, refl, sym, subst, ◌∙◌, append_assoc}
+use Rattle.std.proofs.Common.{arith, inl, inr}
 use Rattle.std.proofs.lemmas.Bool.{cond-true, cond-false, ne_eqb}
 use Rattle.std.proofs.lemmas.List.{append-nil, length-append}
-use Rattle.film_frames.specs.Tracks.{framed_bytes}
-use Rattle.rtsp_client.specs.Replies.{play_range}
-use Rattle.rtsp_client.specs.ClientHistory.{History, ClientEvent, Frame, Reply, Report, Slot, end_ms, first_frame}
-use Rattle.rtsp_client.specs.ClientHistory.{frames, is_inside, is_last, payloads, bytes_pending, bytes_received}
-use Rattle.rtsp_client.specs.ClientHistory.{replies, sizes}
-use Rattle.rtsp_client.specs.Answers.{history_after, events_of_elements, element_events, payloads_of}
+use Rattle.connection_laws.proofs.Terms.{framed_bytes, play_range, History, ClientEvent, Frame, Reply, Report, Slot}
+use Rattle.connection_laws.proofs.Terms.{end_ms, first_frame, frames, is_last, payloads, bytes_received, replies, sizes}
+use Rattle.connection_laws.proofs.Terms.{history_after, events_of_elements, element_events, payloads_of}
+use Rattle.rtsp_client.specs.ClientHistory.{is_inside, bytes_pending}
 use Rattle.connection_laws.proofs.Lists.{Each}
 
 pub record Sum : Type 0 where

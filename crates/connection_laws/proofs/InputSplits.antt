@@ -2,23 +2,19 @@
 use Rattle.std.proofs.Common.{◌≡◌, ℕ, ◌++◌, Bool, true, false, List, [], ◌∷◌, map, refl, ap, sym, ◌∙◌, subst, inl, inr}
 use Rattle.std.proofs.Common.{ap₂}
 use Rattle.std.proofs.lemmas.List.{append-nil, append_assoc, map-append}
-use Rattle.vod_base.specs.Links.{IoEvent, HeardBytes, HeardSlot}
-use Rattle.film_frames.specs.declared.stored_films.Stored.{Stored}
-use Rattle.film_streams.specs.SettingRanges.{AreFilms}
-use Rattle.conn.specs.EventSteps.{Comes, Round, Runs, RunsAll, IsStopped, rounds_outcomes, takings_bytes}
-use Rattle.conn.specs.EventSteps.{takings_outcomes}
-use Rattle.conn.specs.InputSteps.{HasStepped, Outcome, SentPart, Stage, parts_bytes, stage}
-use Rattle.conn.specs.declared.reports.ConnEnd.{ConnEnd}
-use Rattle.connection_laws.specs.Courses.{first_stage, rounds_bytes}
-use Rattle.connection_laws.specs.InputSplits.{AllLackMemoryAlike, HaveSameInput, HaveSameOutput, AreSameAnswers}
-use Rattle.connection_laws.specs.InputSplits.{Beginning, InputSplit, HeardRequest, IsDrained, TakesUp, all_heard}
-use Rattle.connection_laws.specs.InputSplits.{answer_in, answers_in, heard_in, heard_requests_in}
+use Rattle.connection_laws.proofs.Terms.{IoEvent, HeardBytes, HeardSlot, Stored, AreFilms, Comes, Round, Runs}
+use Rattle.connection_laws.proofs.Terms.{IsStopped, rounds_outcomes, takings_bytes, takings_outcomes, HasStepped}
+use Rattle.connection_laws.proofs.Terms.{Outcome, SentPart, Stage, parts_bytes, stage, ConnEnd, first_stage}
+use Rattle.connection_laws.proofs.Terms.{rounds_bytes, AllLackMemoryAlike, AreSameAnswers, Beginning, InputSplit}
+use Rattle.connection_laws.proofs.Terms.{HeardRequest, IsDrained, TakesUp, answer_in, answers_in, heard_requests_in}
+use Rattle.conn.specs.EventSteps.{RunsAll}
+use Rattle.connection_laws.specs.InputSplits.{HaveSameInput, HaveSameOutput, all_heard, heard_in}
 use Rattle.connection_laws.proofs.KeptParts.{stepped_names}
 use Rattle.connection_laws.proofs.UniqueResults.{steps_same}
-use Rattle.connection_laws.proofs.ElementPaths.{GoesAll, Path, Element, ends_same, goes_films}
-use Rattle.connection_laws.proofs.ElementPaths.{goes_grow, longer, path_of, Exchange, no_exchange}
-use Rattle.connection_laws.proofs.ElementPaths.{joined, joined_assoc, exchange_of, join_exchange, takings_exchange}
-use Rattle.connection_laws.proofs.ElementPaths.{way_then, Way, PathDone, path_moved, AreAlike}
+use Rattle.connection_laws.proofs.ElementPaths.{GoesAll, Path, Element, ends_same, goes_films, goes_grow, longer}
+use Rattle.connection_laws.proofs.ElementPaths.{path_of, Exchange, no_exchange, joined, joined_assoc, exchange_of}
+use Rattle.connection_laws.proofs.ElementPaths.{join_exchange, takings_exchange, way_then, Way, PathDone, path_moved}
+use Rattle.connection_laws.proofs.ElementPaths.{AreAlike}
 use Rattle.connection_laws.proofs.Lists.{joins_parts}
 
 -- bytes that came, the elements that were processed after them, and the end, where no more could be processed

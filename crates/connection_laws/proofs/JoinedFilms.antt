@@ -5,15 +5,13 @@ use Rattle.std.proofs.Common.{ap, sym, ◌∙◌, arith, []}
 use Rattle.std.proofs.lemmas.List.{append-nil, length-take, length-drop}
 use Rattle.std.proofs.lemmas.List.Sums.{sum_by-cons}
 use Rattle.std.proofs.Math.Seq.{take-append-add}
-use Rattle.film_frames.specs.Tracks.{IsBoundary, framed_bytes}
-use Rattle.plan_cert.specs.PlanSlots.{total_bytes}
+use Rattle.connection_laws.proofs.Terms.{IsBoundary, framed_bytes, total_bytes, IsPacerState, PacerState, first_slots}
+use Rattle.connection_laws.proofs.Terms.{plan_bytes, AreOver, FilmPlay, due_of, film_of, film_written}
 use Rattle.pacer.specs.Boundaries.{bytes_between}
-use Rattle.pacer.specs.PacerStates.{IsPacerState, PacerState, first_slots, plan_bytes}
 use Rattle.pacer.proofs.PacerStateLemmas.{first-slots-rise}
 use Rattle.pacer.proofs.SendLemmas.{between-join}
 use Rattle.conn.proofs.FilmBytes.{sent_through, through_is}
-use Rattle.connection_laws.specs.Plays.{AreOver, FilmPlay, due_by as all_due, due_of, film_of, film_written}
-use Rattle.connection_laws.specs.Plays.{bytes_of_plays}
+use Rattle.connection_laws.specs.Plays.{due_by as all_due, bytes_of_plays}
 use Rattle.connection_laws.proofs.RequestEffects.{Sends, Idle, Going, Ending}
 
 -- the film of a pacing, and its play where so much is kept

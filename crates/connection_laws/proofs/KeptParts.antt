@@ -1,27 +1,16 @@
 -- Parts of a session that requests, replies and slots leave as they were, with what SETUP settled.
 use Rattle.std.proofs.Common.{◌≡◌, ℕ, ◌&&◌, if◌then◌else◌, Bool, true, false, List, [], ◌∷◌, refl, ap, ◌∙◌, Some}
-use Rattle.film_frames.specs.declared.stored_films.Stored.{Stored}
-use Rattle.session.specs.declared.commands.Ask.{Ask}
-use Rattle.session.specs.declared.states.Awaited.{Awaited}
-use Rattle.session.specs.SlotSteps.{due_state, after_play, after_slot, can_reply, is_between, is_sending, is_taken}
-use Rattle.session.specs.SlotSteps.{sent_due}
-use Rattle.session.specs.SlotSteps.{sent_reply, sent_slot, stepped_in, halted_in, next_of, state_once_halted}
-use Rattle.session.specs.SessionStates.{SessionState, awaited_answer, AwaitedAnswer}
+use Rattle.connection_laws.proofs.Terms.{Stored, Ask, Awaited, due_state, after_play, after_slot, can_reply, is_between}
+use Rattle.connection_laws.proofs.Terms.{is_sending, is_taken, sent_due, sent_reply, sent_slot, stepped_in, halted_in}
+use Rattle.connection_laws.proofs.Terms.{next_of, state_once_halted, SessionState, awaited_answer, AwaitedAnswer}
+use Rattle.connection_laws.proofs.Terms.{Answered, ElementStep, HasHeard, HasStepped, IsAskAnswered, IsReplied, Outcome}
+use Rattle.connection_laws.proofs.Terms.{Passed, SentPart, Stage, TakesAll, after_reply, AfterHalt, Done, Setup, State}
+use Rattle.connection_laws.proofs.Terms.{Init, Playing, setup_in, after_stop, Round}
 use Rattle.conn.proofs.HaltAnswers.{finished_as_before}
-use Rattle.conn.specs.InputSteps.{Answered, ElementStep, HasHeard, HasStepped, IsAskAnswered, IsReplied, Outcome}
-use Rattle.conn.specs.InputSteps.{Passed, SentPart, Stage, TakesAll, after_reply}
 use Rattle.connection_laws.proofs.RequestEffects.{RequestAnswer, OwnReply, request_answer}
-use Rattle.session.specs.declared.states.AfterHalt.{AfterHalt}
-use Rattle.session.specs.declared.states.AfterHalt.TheVariants.{Done}
 use Rattle.session.specs.declared.states.Play.{Play as Played}
-use Rattle.film_streams.specs.declared.setups.Setup.{Setup}
-use Rattle.session.specs.declared.states.State.{State}
-use Rattle.session.specs.declared.states.State.TheVariants.{Init, Playing}
-use Rattle.session_laws.specs.MethodLaws.{setup_in}
-use Rattle.session.specs.SlotTransitions.{after_stop}
 use Rattle.conn.proofs.StationAnswers.{AnswersAs, NoneAsked, answers_as, FinishesAs, NothingLeft, DoneHalted, ComesAs}
 use Rattle.conn.proofs.StationAnswers.{BytesCame, SlotCame}
-use Rattle.conn.specs.EventSteps.{Round}
 
 -- what no request and no reply to one changes
 pub record LastingPart : Type 0 where

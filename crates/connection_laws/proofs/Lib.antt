@@ -1,3 +1,4 @@
+mod Terms
 mod Lists
 mod StationAnswers
 mod KeptParts

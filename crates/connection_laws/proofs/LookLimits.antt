@@ -2,15 +2,12 @@
 use Rattle.std.proofs.Common.{◌≡◌, ℕ, ◌-◌, ◌++◌, List, Option, codes, decimal, get_or, ap, subst, inl, inr, arith}
 use Rattle.std.proofs.lemmas.List.{append_assoc}
 use Rattle.std.specs.Fmt.{digits}
-use Rattle.rtsp_text.specs.Replies.{Field, field_line, reply_front, reply_text, status_line}
-use Rattle.session.specs.declared.commands.Ask.{Ask}
+use Rattle.connection_laws.proofs.Terms.{Field, field_line, Ask, field, SessionState, HasHeard, Outcome, Course}
+use Rattle.rtsp_text.specs.Replies.{reply_front, reply_text, status_line}
 use Rattle.session.specs.Laws.{Is500, NeverLacks}
-use Rattle.rtsp_replies.specs.Replies.{field, full_text, overflow_text}
+use Rattle.rtsp_replies.specs.Replies.{full_text, overflow_text}
 use Rattle.session.specs.RequestEffects.{HasCode}
-use Rattle.session.specs.SessionStates.{SessionState}
 use Rattle.session.proofs.ReplyCodeLemmas.{hears_may, hears_never}
-use Rattle.conn.specs.InputSteps.{HasHeard, Outcome}
-use Rattle.connection_laws.specs.Courses.{Course}
 use Rattle.connection_laws.specs.LookLimits.{MayLackMemory}
 use Rattle.connection_laws.proofs.PlayRuns.{looks_used}
 use Rattle.conn.proofs.StationAnswers.{AnswersAs, NoneAsked, PlayAdmitted, PlayOverflowed, PlayFull, PlayHalted}

@@ -4,26 +4,18 @@ use Rattle.std.proofs.Common.{List, [], ◌∷◌, ◌++◌, length, take, get_o
 use Rattle.std.proofs.Common.{arith, inl, inr}
 use Rattle.std.proofs.lemmas.Bool.{cases_lt, leb-true, ltb-true, and_parts}
 use Rattle.std.proofs.lemmas.List.{append-nil, length-append, length-take, take-append-le, take-take, take_all}
-use Rattle.vod_base.specs.Links.{IoEvent, HeardBytes, HeardSlot}
-use Rattle.interleave.specs.Heads.{is_line_end}
-use Rattle.interleave.specs.Elements.{IsFirst}
-use Rattle.interleave.specs.declared.elements.Step.TheVariants.{More}
+use Rattle.connection_laws.proofs.Terms.{IoEvent, HeardBytes, HeardSlot, is_line_end, IsFirst, More, Film, picture_time}
+use Rattle.connection_laws.proofs.Terms.{framed_bytes, Wish, history_after, cut_bytes, events_of_elements}
+use Rattle.connection_laws.proofs.Terms.{element_events, Brings, RunsAll, WatchStage, events_of_rounds, units_until}
+use Rattle.connection_laws.proofs.Terms.{first_slot, History, ClientEvent, Frame, Reply, Report, Slot, is_playing}
+use Rattle.connection_laws.proofs.Terms.{bytes_received, replies, IsBetween, IsBetweenAlways, IsFilmHeard, bytes_in}
 use Rattle.interleave.proofs.StreamElements.{tells_none}
-use Rattle.mpeg_scan.specs.declared.films.Film.{Film}
-use Rattle.mpeg_scan.specs.PictureRates.{picture_time}
-use Rattle.film_frames.specs.Tracks.{framed_bytes}
-use Rattle.rtsp_client.specs.declared.watch_request.Wish.{Wish}
-use Rattle.rtsp_client.specs.Answers.{history_after, cut_bytes, events_of_elements, element_events}
-use Rattle.rtsp_client.specs.WatchCourses.{Brings, Round, RunsAll, WatchStage, events_of_rounds}
-use Rattle.rtsp_client.specs.Films.{units_until}
-use Rattle.rtsp_client.specs.Meters.{first_slot, is_read, place_in}
-use Rattle.rtsp_client.specs.ClientHistory.{History, ClientEvent, Frame, Reply, Report, Slot, is_playing, last_slot}
-use Rattle.rtsp_client.specs.ClientHistory.{bytes_received, replies}
-use Rattle.rtsp_client.specs.MeterGuarantee.{IsBetween, IsBetweenAlways, IsFilmHeard}
+use Rattle.rtsp_client.specs.WatchCourses.{Round}
+use Rattle.rtsp_client.specs.Meters.{is_read, place_in}
+use Rattle.rtsp_client.specs.ClientHistory.{last_slot}
 use Rattle.rtsp_client.proofs.ElementSteps.{after-on}
 use Rattle.rtsp_client.proofs.EventCourses.{history-later}
 use Rattle.connection_laws.proofs.FilmReading.{film_sizes, heard_of, WholeStream}
-use Rattle.connection_laws.specs.Requests.{bytes_in}
 use Rattle.connection_laws.proofs.ClientInput.{Heard, heard_round, replies_later, rounds_heard, slot_stays}
 use Rattle.connection_laws.proofs.MeterInput.{Stream, all_of, begun_sum, film_place, reading_of}
 

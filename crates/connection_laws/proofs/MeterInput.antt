@@ -5,15 +5,10 @@ use Rattle.std.proofs.Common.{min, List, [], ◌∷◌, ◌++◌, length, take, 
 use Rattle.std.proofs.lemmas.Bool.{cases_lt, cond-true, cond-false, eq-eqb, lt-ltb, or_left, or_right}
 use Rattle.std.proofs.lemmas.List.{get_or-take, length-take-le, take-append-le, take_all}
 use Rattle.std.proofs.Math.Seq.{take-append-add}
-use Rattle.interleave.specs.Heads.{is_line_end}
-use Rattle.interleave.specs.Elements.{IsMessageLength, StartsMessage}
-use Rattle.interleave.specs.Streams.{IsElementLength, WholeMessage}
+use Rattle.connection_laws.proofs.Terms.{is_line_end, IsMessageLength, StartsMessage, IsElementLength, WholeMessage}
+use Rattle.connection_laws.proofs.Terms.{count_ended, framed_bytes, block_events, cut_bytes, events_of_elements}
+use Rattle.connection_laws.proofs.Terms.{element_events, WatchStage, Reply, replies}
 use Rattle.interleave.proofs.StreamElements.{TwoStreams, stream_once}
-use Rattle.film_frames.specs.FramedRuns.{count_ended}
-use Rattle.film_frames.specs.Tracks.{framed_bytes}
-use Rattle.rtsp_client.specs.Answers.{block_events, cut_bytes, events_of_elements, element_events}
-use Rattle.rtsp_client.specs.WatchCourses.{WatchStage}
-use Rattle.rtsp_client.specs.ClientHistory.{Reply, replies}
 use Rattle.connection_laws.proofs.PieceCounts.{all_past, all_within, at_less, at_more, count_bytes, count_most}
 use Rattle.connection_laws.proofs.PieceCounts.{count_whole, rest_at}
 use Rattle.connection_laws.proofs.ClientInput.{Heard, no_sum}

@@ -3,21 +3,13 @@
 use Rattle.std.specs.Prelude.{⊤}
 use Rattle.std.proofs.Common.{true, false, Option, None, is_some, inl, inr, ◌+◌, ◌≤◌, ◌≡◌, ℕ, zero, suc, ◌<◌, ◌^◌, List}
 use Rattle.std.proofs.Common.{[], ◌∷◌, ◌++◌, length, get_or, codes, refl, sym, ap, subst, ◌∙◌, arith}
-use Rattle.rtsp_client.specs.Requests.{film_url, play_text, setup_text}
-use Rattle.rtsp_client.specs.RequestParts.{setup_parts}
-use Rattle.rtsp_text.specs.RequestTexts.{request_head}
+use Rattle.connection_laws.proofs.Terms.{film_url, play_text, setup_text, setup_parts, request_head, setup_in}
+use Rattle.connection_laws.proofs.Terms.{SessionState, has_session_in, Setup, State, Init, HasValidIds, IsAskAnswered}
+use Rattle.connection_laws.proofs.Terms.{Stage, Entered, Course, StationRequest, FilmPlay, plays_begun, play_by}
+use Rattle.connection_laws.proofs.Terms.{plays_of, AreAnswers, IsMessage}
 use Rattle.rtsp_text.proofs.MessageUniqueness.{request_once}
 use Rattle.session.specs.declared.commands.Ask.TheVariants.{Reply}
-use Rattle.session_laws.specs.MethodLaws.{setup_in}
-use Rattle.session.specs.SessionStates.{SessionState, has_session_in}
-use Rattle.film_streams.specs.declared.setups.Setup.{Setup}
-use Rattle.session.specs.declared.states.State.{State}
-use Rattle.session.specs.declared.states.State.TheVariants.{Init}
-use Rattle.session_laws.specs.CompleteReplies.{HasValidIds}
 use Rattle.session_laws.proofs.CompleteReplyLemmas.{replies_whole}
-use Rattle.conn.specs.InputSteps.{IsAskAnswered, Stage, Entered}
-use Rattle.connection_laws.specs.Courses.{Course}
-use Rattle.connection_laws.specs.Plays.{StationRequest, FilmPlay, plays_begun, play_by, plays_of}
 use Rattle.connection_laws.proofs.CourseSteps.{request_stands}
 use Rattle.conn.proofs.StationAnswers.{answers_as}
 use Rattle.connection_laws.proofs.KeptParts.{LastingPart, taken_keeps, replied_setup, comes_setup}
@@ -35,11 +27,9 @@ use Rattle.connection_laws.proofs.CompleteReplies.{play_room, setup_room, TornFr
 use Rattle.connection_laws.proofs.CompleteReplies.{IsOwnReply}
 use Rattle.connection_laws.proofs.FirstPlays.{IsWished, wished_play}
 use Rattle.connection_laws.proofs.FilmReplies.{IsFilmAnswer, IsPlayBegun as IsPlayBegunAt, play_begun as play_begun_at}
-use Rattle.connection_laws.specs.WatchEnds.{AreAnswers}
 use Rattle.connection_laws.proofs.ReplyReadings.{IsSetupRead, setup_read}
 use Rattle.connection_laws.proofs.RequestReplies.{IsNamed, named_still, setup_replied}
 use Rattle.connection_laws.proofs.BookedPlays.{comes_none}
-use Rattle.rtsp_replies.specs.Messages.{IsMessage}
 use Rattle.connection_laws.proofs.Lists.{Each}
 
 -- ---- the walk to PLAY

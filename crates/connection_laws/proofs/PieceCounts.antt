@@ -3,8 +3,7 @@ use Rattle.std.proofs.Common.{◌≡◌, ℕ, suc, ◌+◌, ◌-◌, ◌<◌, �
 use Rattle.std.proofs.Common.{ap, arith, inl, inr}
 use Rattle.std.proofs.lemmas.Bool.{cases_lt, le-leb, lt-leb}
 use Rattle.std.proofs.lemmas.List.{length-append, length-take-le}
-use Rattle.film_frames.specs.FramedRuns.{count_ended}
-use Rattle.film_frames.specs.Tracks.{framed_bytes}
+use Rattle.connection_laws.proofs.Terms.{count_ended, framed_bytes}
 
 -- the prefix of an element at which a stream is split
 abbrev pub rest_at : ℕ → List (List ℕ) → List ℕ

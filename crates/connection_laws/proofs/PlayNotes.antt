@@ -1,26 +1,15 @@
 -- A report's notes are those of the plays that were admitted.
 use Rattle.std.proofs.Common.{◌≡◌, ℕ, ◌++◌, List, [], ◌∷◌, refl, sym, ap, ◌∙◌, Bool, true, false, true≢false}
 use Rattle.std.proofs.lemmas.List.{append_assoc, append-nil}
-use Rattle.plan_cert.specs.PlanSlots.{total_bytes}
-use Rattle.admission.specs.Histories.{play_admitted}
-use Rattle.admission.specs.Makers.{PlacedEntry}
-use Rattle.admission.specs.declared.entries.Answer.{Answer}
-use Rattle.station.specs.Ledgers.{play_of}
+use Rattle.connection_laws.proofs.Terms.{total_bytes, play_admitted, PlacedEntry, Answer, play_of, Awaited, Play}
+use Rattle.connection_laws.proofs.Terms.{AfterHalt, Done, Setup, State, Init, Ready, Playing, after_halt, halted_in}
+use Rattle.connection_laws.proofs.Terms.{kept_of, state_once_halted, SessionState, Outcome, Unasked, Entered}
+use Rattle.connection_laws.proofs.Terms.{StationCall, kept_later, notes_of_calls, noted_for, station_call, kept_by}
+use Rattle.connection_laws.proofs.Terms.{kept_with}
 use Rattle.session_records.specs.declared.notes.PlayNote.{PlayNote}
-use Rattle.session.specs.declared.states.Awaited.{Awaited}
-use Rattle.session.specs.declared.states.Awaited.TheVariants.{Play}
-use Rattle.session.specs.declared.states.AfterHalt.{AfterHalt}
-use Rattle.session.specs.declared.states.AfterHalt.TheVariants.{Done}
 use Rattle.session.specs.declared.states.Play.{Play as Played}
-use Rattle.film_streams.specs.declared.setups.Setup.{Setup}
-use Rattle.session.specs.declared.states.State.{State}
-use Rattle.session.specs.declared.states.State.TheVariants.{Init, Ready, Playing}
-use Rattle.session.specs.RequestSteps.{after_halt}
-use Rattle.session.specs.SlotSteps.{halted_in, halted_notes, kept_of, note_of, state_once_halted}
-use Rattle.session.specs.SessionStates.{SessionState}
-use Rattle.conn.specs.InputSteps.{Outcome, Unasked, Entered}
-use Rattle.connection_laws.specs.Notes.{StationCall, kept_later, notes_of_calls, noted_entry, noted_for, station_call}
-use Rattle.connection_laws.specs.Plays.{kept_by, kept_with}
+use Rattle.session.specs.SlotSteps.{halted_notes, note_of}
+use Rattle.connection_laws.specs.Notes.{noted_entry}
 use Rattle.conn.proofs.StationAnswers.{IsHaltEntry, IsPlayEntry}
 use Rattle.connection_laws.proofs.RequestEffects.{RequestAnswer, OwnReply, SetupReply, Admission, Refusal, HaltMade}
 use Rattle.connection_laws.proofs.RequestEffects.{LookAnswer, at_halt, at_play}

@@ -9,23 +9,17 @@ use Rattle.std.proofs.lemmas.Grind.{div_ceil_times}
 use Rattle.std.proofs.lemmas.Fmt.{decimal_digit, decimal_nonempty}
 use Rattle.std.proofs.lemmas.List.{append-nil, length-append, get_or_append_left, get_or-append_right, take_at, drop_at}
 use Rattle.std.proofs.Math.Nat.{mul-le-mul_right}
-use Rattle.mpeg_scan.specs.declared.films.Film.{Film}
-use Rattle.mpeg_scan.specs.StartCodes.{read_after}
-use Rattle.mpeg_scan.specs.PictureRates.{picture_time}
+use Rattle.connection_laws.proofs.Terms.{Film, read_after, picture_time, length_ms, field, joined_parts, play_fields}
+use Rattle.connection_laws.proofs.Terms.{IsPlayRead, seconds_text, units_until, IsMessageLength, header_value, Field}
+use Rattle.connection_laws.proofs.Terms.{IsPlain, all_fields, session_id, IsAnswer}
 use Rattle.mpeg_scan.proofs.FilmBoundLemmas.{film-rate}
-use Rattle.film_streams.specs.Films.{length_ms}
-use Rattle.rtsp_replies.specs.Replies.{field, joined_parts, play_fields, play_text}
-use Rattle.connection_laws.specs.PlayReplies.{IsPlayRead}
+use Rattle.rtsp_replies.specs.Replies.{play_text}
 use Rattle.plan_cert.proofs.DecimalLemmas.{no_leading_zero}
 use Rattle.vod_base.specs.Numbers.{number_of}
 use Rattle.vod_base.proofs.TextLemmas.{decimal_read}
-use Rattle.rtsp_fields.specs.Sdp.{seconds_text}
-use Rattle.rtsp_client.specs.Films.{units_until}
-use Rattle.interleave.specs.Elements.{IsMessageLength}
-use Rattle.rtsp_text.specs.Fields.{header_value}
-use Rattle.rtsp_text.specs.Replies.{Field, IsPlain, all_fields, phrase, reply_front, reply_text, value_named}
+use Rattle.rtsp_text.specs.Replies.{phrase, reply_front, reply_text, value_named}
 use Rattle.rtsp_text.proofs.ReplyRoundTrip.{read_back}
-use Rattle.rtsp_client.specs.Replies.{has_point, milliseconds, range_end, session_id, start_within, time_in, IsAnswer}
+use Rattle.rtsp_client.specs.Replies.{has_point, milliseconds, range_end, start_within, time_in}
 
 -- as many pictures as a film has last until its end in whole milliseconds
 units_counted : (n time : ℕ) → 360 ≤ time → units_until (n * time / 360) time ≡ n

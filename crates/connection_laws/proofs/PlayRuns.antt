@@ -1,41 +1,28 @@
 -- The plays of a course send its runs in order.
-use Rattle.connection_laws.proofs.CourseSteps.{Stands, IsKeptStanding, slot_asks, all_kept, Finished, Quiet, Ended}
-use Rattle.connection_laws.proofs.CourseSteps.{finish_by}
 use Rattle.std.proofs.Common.{◌≡◌, ℕ, ◌+◌, ◌-◌, ◌%◌, ◌≤◌, ◌⊎◌, ◌&&◌, ◌++◌, if◌then◌else◌, Bool, true, false, List, ◌∷◌}
 use Rattle.std.proofs.Common.{Option, Some, None, slice_get, slice_index, add_assoc, refl, sym, ap, subst, ◌∙◌, inl}
 use Rattle.std.proofs.Common.{inr, arith, []}
 use Rattle.std.proofs.lemmas.Bool.{true≢false}
 use Rattle.std.proofs.lemmas.List.{append_assoc, append-nil}
-use Rattle.plan_cert.specs.PlanSlots.{total_bytes}
-use Rattle.film_frames.specs.declared.stored_films.Stored.{Stored}
-use Rattle.film_frames.specs.FramedRuns.{FramedRun, frames_before, octets_before}
-use Rattle.film_run.specs.declared.runs.Run.{Run}
-use Rattle.rtp_pack.specs.declared.reports.Identity.{Identity}
-use Rattle.admission.specs.Makers.{PlacedEntry}
-use Rattle.session.specs.declared.states.AfterHalt.{AfterHalt}
-use Rattle.session.specs.declared.states.AfterHalt.TheVariants.{Done, Paused, Torn}
-use Rattle.session.specs.declared.states.Awaited.{Awaited}
-use Rattle.session.specs.declared.states.Awaited.TheVariants.{Nothing, Play, Halt}
-use Rattle.film_streams.specs.declared.stream_numbers.Counts.{Counts}
+use Rattle.connection_laws.proofs.Terms.{total_bytes, Stored, FramedRun, Run, Identity, PlacedEntry, AfterHalt, Done}
+use Rattle.connection_laws.proofs.Terms.{Awaited, Nothing, Play, Halt, Counts, Setup, State, Init, Ready, Playing}
+use Rattle.connection_laws.proofs.Terms.{Stopping, StreamSource, IsFilmAt, identity_of, after_admission, after_halt}
+use Rattle.connection_laws.proofs.Terms.{SessionState, after_slot, can_reply, due_state, is_between, sent_due}
+use Rattle.connection_laws.proofs.Terms.{sent_reply, sent_slot, stepped_in, after_stop, Outcome, Entered, SentPart}
+use Rattle.connection_laws.proofs.Terms.{Stage, Unasked, Course, asked_by, askings_of, course_plays, FilmPlay}
+use Rattle.connection_laws.proofs.Terms.{StationRequest, Asks, kept_by, kept_in, kept_with, play_by, plays_of, look_in}
+use Rattle.connection_laws.proofs.Terms.{Round, Admitted}
+use Rattle.connection_laws.proofs.CourseSteps.{Stands, IsKeptStanding, slot_asks, all_kept, Finished, Quiet, Ended}
+use Rattle.connection_laws.proofs.CourseSteps.{finish_by}
+use Rattle.film_frames.specs.FramedRuns.{frames_before, octets_before}
+use Rattle.session.specs.declared.states.AfterHalt.TheVariants.{Paused, Torn}
 use Rattle.session.specs.declared.states.Play.{Play as Played}
-use Rattle.film_streams.specs.declared.setups.Setup.{Setup}
-use Rattle.session.specs.declared.states.State.{State}
-use Rattle.session.specs.declared.states.State.TheVariants.{Init, Ready, Playing, Stopping}
-use Rattle.film_streams.specs.declared.stream_numbers.StreamSource.{StreamSource}
 use Rattle.session.specs.RunRequests.{sending_of, counts_before}
-use Rattle.film_streams.specs.Films.{IsFilmAt}
-use Rattle.film_streams.specs.StreamNumbers.{counts_after, identity_of, source_of}
+use Rattle.film_streams.specs.StreamNumbers.{counts_after, source_of}
 use Rattle.session.specs.Laws.{GoesOn}
-use Rattle.session.specs.RequestSteps.{after_admission, after_halt, counts_done}
-use Rattle.session.specs.SessionStates.{SessionState}
-use Rattle.session.specs.SlotSteps.{after_slot, can_reply, due_state, is_between, sent_due, sent_reply}
-use Rattle.session.specs.SlotSteps.{sent_slot, stepped_in}
-use Rattle.session.specs.SlotTransitions.{after_stop}
+use Rattle.session.specs.RequestSteps.{counts_done}
 use Rattle.session_laws.proofs.RunLemmas.{AskedPlay, IsLeftBy, IsNextRun, one_film, run_goes_on}
-use Rattle.conn.specs.InputSteps.{Outcome, Entered, SentPart, Stage, Unasked}
-use Rattle.connection_laws.specs.Courses.{Course, asked_by, askings_of, course_plays}
-use Rattle.connection_laws.specs.Plays.{FilmPlay, StationRequest, Asks, kept_by, kept_in, kept_with, play_by, plays_of}
-use Rattle.connection_laws.specs.LookLimits.{course_looks, look_in, looks_in}
+use Rattle.connection_laws.specs.LookLimits.{course_looks, looks_in}
 use Rattle.connection_laws.specs.PlayRuns.{AreRunsInOrder, IsFirstRun, IsLaterRun, RunPlace, SendsNext, run_place}
 use Rattle.connection_laws.proofs.StationAnswers.{SlotTo, SlotSent, slot_to}
 use Rattle.connection_laws.proofs.RequestEffects.{IsStill, at_play, before_play, looked_still, no_entry, refused_still}
@@ -44,8 +31,6 @@ use Rattle.connection_laws.proofs.RequestEffects.{Refusal, RequestAnswer, SetupR
 use Rattle.connection_laws.proofs.KeptParts.{reply_keeps, slot_keeps}
 use Rattle.connection_laws.proofs.CourseInduction.{Piece, AnsweredRequest, asking_of, begin_of}
 use Rattle.conn.proofs.StationAnswers.{IsHaltEntry, IsPlayEntry, ComesAs, BytesCame, SlotCame}
-use Rattle.conn.specs.EventSteps.{Round}
-use Rattle.admission.specs.declared.entries.Answer.TheVariants.{Admitted}
 
 -- what the runs of a session go by, and what of a reply matters to them
 record Stream : Type 0 where

@@ -1,24 +1,15 @@
 -- The receipts and offers of a connection's report, event by event.
 use Rattle.std.proofs.Common.{◌≡◌, ℕ, ◌++◌, List, [], ◌∷◌, refl, sym, ap, subst, ◌∙◌, map}
 use Rattle.std.proofs.lemmas.List.{append_assoc, append-nil, map-append}
-use Rattle.film_frames.specs.declared.stored_films.Stored.{Stored}
-use Rattle.admission.specs.declared.entries.Answer.{Answer}
-use Rattle.admission.specs.Makers.{PlacedEntry}
-use Rattle.session_records.specs.declared.notes.OfferNote.{OfferNote}
+use Rattle.connection_laws.proofs.Terms.{Stored, Answer, PlacedEntry, OfferNote, Settings, after_slot, SessionState}
+use Rattle.connection_laws.proofs.Terms.{AwaitedAnswer, Outcome, Entered, ConnReport, Activity, HasDone}
+use Rattle.connection_laws.proofs.Terms.{doings_outcomes, first_stage, StationCall, outcome_of}
 use Rattle.session_records.specs.declared.notes.Receipt.{Receipt}
 use Rattle.session_records.specs.declared.notes.Receipt.TheVariants.{Entry as EntryReceipt}
-use Rattle.film_streams.specs.declared.settings.Settings.{Settings}
-use Rattle.session.specs.SlotSteps.{after_slot}
-use Rattle.session.specs.SessionStates.{SessionState, AwaitedAnswer}
-use Rattle.conn.specs.InputSteps.{Outcome, Entered}
-use Rattle.conn.specs.declared.reports.ConnReport.{ConnReport}
-use Rattle.conn.specs.Agreement.{Activity, HasDone, doings_outcomes}
-use Rattle.connection_laws.specs.Courses.{first_stage}
 use Rattle.connection_laws.specs.Receipts.{offer_in, offers_in, receipt_in, receipts_in}
-use Rattle.connection_laws.proofs.RequestEffects.{RequestAnswer, Admission, Refusal, HaltMade}
-use Rattle.connection_laws.proofs.RequestEffects.{LookAnswer, JournalFull, OfferAnswer, request_answer}
+use Rattle.connection_laws.proofs.RequestEffects.{RequestAnswer, Admission, Refusal, HaltMade, LookAnswer, JournalFull}
+use Rattle.connection_laws.proofs.RequestEffects.{OfferAnswer, request_answer}
 use Rattle.connection_laws.proofs.KeptParts.{slot_keeps}
-use Rattle.connection_laws.specs.Notes.{StationCall, outcome_of}
 use Rattle.connection_laws.proofs.CourseTurns.{IsKeptByDoings, doings_kept, turns_told}
 use Rattle.conn.proofs.StationAnswers.{FinishesAs, NothingLeft, DoneHalted}
 use Rattle.connection_laws.proofs.Lists.{joins_parts}

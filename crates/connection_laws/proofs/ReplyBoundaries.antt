@@ -1,29 +1,20 @@
 -- What a request, a reply and a slot make of what is sent: the film's bytes that are due, and each reply at the first
 -- boundary from what was due when its request was processed.
+use Rattle.std.proofs.Common.{◌≡◌, ℕ, ◌+◌, ◌-◌, ◌≤◌, ◌++◌, if◌then◌else◌, Bool, true, false, min, List, ◌∷◌, Option}
+use Rattle.std.proofs.Common.{Some, None, length, refl, ap, sym, ◌∙◌, subst, inl, arith, []}
+use Rattle.std.proofs.lemmas.Bool.{true≢false}
+use Rattle.connection_laws.proofs.Terms.{IsBoundary, framed_bytes, total_bytes, IsPacerState, PacerState, first_slots}
+use Rattle.connection_laws.proofs.Terms.{next_boundary, stands_at_boundary, after_step, due_by, Awaited, State, Playing}
+use Rattle.connection_laws.proofs.Terms.{Stopping, is_between, is_sending, SessionState, after_stop, Outcome, Text}
+use Rattle.connection_laws.proofs.Terms.{IsSentAt, StationRequest, Asks, due_of, kept_in, kept_with, play_by, plays_of}
+use Rattle.connection_laws.proofs.Terms.{placed_text}
 use Rattle.connection_laws.proofs.WaitingReplies.{Fits, GoesTo, IsHeld, Stand, after_slot, at_here, due_far, due_going}
 use Rattle.connection_laws.proofs.WaitingReplies.{due_here, goes_same, held_here, parts_in, slot_at, point, Point}
 use Rattle.connection_laws.proofs.WaitingReplies.{pending_then, LaterSlot, piece_then, PlaySlot, slot_held, over_at}
-use Rattle.std.proofs.Common.{◌≡◌, ℕ, ◌+◌, ◌-◌, ◌≤◌, ◌++◌, if◌then◌else◌, Bool, true, false, min, List, ◌∷◌}
-use Rattle.std.proofs.Common.{Option, Some, None, length, refl, ap, sym, ◌∙◌, subst, inl, arith, []}
 use Rattle.conn.proofs.ReplyPlacement.{boundary_here}
-use Rattle.std.proofs.lemmas.Bool.{true≢false}
-use Rattle.film_frames.specs.Tracks.{IsBoundary, framed_bytes}
 use Rattle.pacer.proofs.PacerStateLemmas.{boundary-from}
-use Rattle.plan_cert.specs.PlanSlots.{total_bytes}
-use Rattle.pacer.specs.PacerStates.{IsPacerState, PacerState, first_slots, next_boundary, stands_at_boundary}
-use Rattle.pacer.specs.PacerStates.{after_step, due_by}
-use Rattle.session.specs.declared.states.Awaited.{Awaited}
-use Rattle.session.specs.declared.states.State.{State}
-use Rattle.session.specs.declared.states.State.TheVariants.{Playing, Stopping}
-use Rattle.session.specs.SlotSteps.{is_between, is_sending}
-use Rattle.session.specs.SessionStates.{SessionState}
-use Rattle.session.specs.SlotTransitions.{after_stop}
-use Rattle.conn.specs.InputSteps.{Outcome, Text}
 use Rattle.conn.proofs.FilmBytes.{sent_through, slot_is, stopped_is}
-use Rattle.connection_laws.specs.ReplyPlaces.{IsSentAt}
-use Rattle.connection_laws.specs.Plays.{StationRequest, Asks, due_by as all_due}
-use Rattle.connection_laws.specs.Plays.{due_of, kept_in, kept_with, play_by, plays_of}
-use Rattle.connection_laws.specs.Replies.{placed_text}
+use Rattle.connection_laws.specs.Plays.{due_by as all_due}
 use Rattle.connection_laws.proofs.JoinedFilms.{IsOnTime, IsSound, play_with, through_time, IsAtLast}
 use Rattle.connection_laws.proofs.TextPlaces.{AreLater, StandAt, from_lower, later_lower, none_due, text_at, AreSent}
 use Rattle.connection_laws.proofs.TextPlaces.{NextText, ToCome, part_then}

@@ -5,18 +5,16 @@ use Rattle.std.proofs.Common.{◌≡◌, ℕ, ◌+◌, ◌-◌, ◌≤◌, ◌++
 use Rattle.std.proofs.Common.{◌&&◌, if◌then◌else◌, Bool, true, false, map, []}
 use Rattle.std.proofs.lemmas.List.{append-nil, append_assoc}
 use Rattle.std.proofs.Math.Seq.{drop-append-add, take-append-add}
-use Rattle.conn.specs.Films.{round_parts, rounds_parts, takings_parts}
-use Rattle.conn.specs.EventSteps.{Round, takings_bytes}
-use Rattle.connection_laws.specs.Courses.{rounds_bytes, Course, course_film}
-use Rattle.conn.specs.InputSteps.{Answered, Film, SentPart, Passed, Stage, ElementStep, Text, film_bytes, part_bytes}
-use Rattle.conn.specs.InputSteps.{parts_bytes, Outcome, due_parts, slot_parts}
-use Rattle.connection_laws.specs.Replies.{PlacedText, placed_texts, insert_texts, text_of, waiting_reply, course_texts}
-use Rattle.connection_laws.specs.Replies.{course_replies}
-use Rattle.session.specs.SlotSteps.{can_reply, is_between, sent_due, sent_reply, step_bytes, stepped_in}
-use Rattle.session.specs.SessionStates.{SessionState}
+use Rattle.connection_laws.proofs.Terms.{round_parts, rounds_parts, takings_parts, Round, takings_bytes, rounds_bytes}
+use Rattle.connection_laws.proofs.Terms.{Course, course_film, Answered, SentPart, Passed, Stage, ElementStep, Text}
+use Rattle.connection_laws.proofs.Terms.{film_bytes, parts_bytes, Outcome, due_parts, slot_parts, PlacedText}
+use Rattle.connection_laws.proofs.Terms.{placed_texts, insert_texts, text_of, waiting_reply, course_texts}
+use Rattle.connection_laws.proofs.Terms.{course_replies, can_reply, is_between, sent_due, sent_reply, step_bytes}
+use Rattle.connection_laws.proofs.Terms.{stepped_in, SessionState}
+use Rattle.conn.specs.InputSteps.{Film, part_bytes}
 use Rattle.connection_laws.proofs.RequestEffects.{answered_after}
-use Rattle.connection_laws.proofs.CourseSteps.{Stands, IsKeptStanding, film_written_is}
-use Rattle.connection_laws.proofs.CourseSteps.{all_kept, slot_asks, film_sent, Finished, Quiet, Ended, finish_by}
+use Rattle.connection_laws.proofs.CourseSteps.{Stands, IsKeptStanding, film_written_is, all_kept, slot_asks, film_sent}
+use Rattle.connection_laws.proofs.CourseSteps.{Finished, Quiet, Ended, finish_by}
 use Rattle.connection_laws.proofs.StationAnswers.{SlotTo, SlotSent, slot_to}
 use Rattle.connection_laws.proofs.CourseInduction.{Piece, AnsweredRequest, begin_of}
 use Rattle.conn.proofs.StationAnswers.{ComesAs, BytesCame, SlotCame}

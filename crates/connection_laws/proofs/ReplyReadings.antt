@@ -11,23 +11,20 @@ use Rattle.std.proofs.lemmas.Bool.{and_from, and_parts, cases_Bool, cond-false, 
 use Rattle.std.proofs.lemmas.Fmt.{digits_decimal}
 use Rattle.std.proofs.lemmas.List.{reverse-reverse}
 use Rattle.std.proofs.lemmas.List.Folds.{list_all_at}
+use Rattle.std.proofs.lemmas.List.Elements.{All-cons, All-nil}
+use Rattle.connection_laws.proofs.Terms.{is_url_byte, IsPlain, Field, all_fields, seconds_text, field, joined_parts}
+use Rattle.connection_laws.proofs.Terms.{play_fields, session_text, header_value, IsMessage, IsAnswer, play_range}
+use Rattle.connection_laws.proofs.Terms.{play_start, session_id, setup_session, IsPlayRead}
 use Rattle.hex.specs.Hex.{encode_lower, encode_with, lower_digits}
 use Rattle.vod_base.specs.Blanks.{is_blank, without_blanks, without_leading_blanks}
 use Rattle.vod_base.proofs.DigitLemmas.{decimal_numerals}
 use Rattle.vod_base.proofs.TextLemmas.{all-reverse}
-use Rattle.rtsp_text.specs.Grammar.{is_token, is_url_byte, is_value_byte}
-use Rattle.rtsp_text.specs.Replies.{IsPlain, Field, all_fields, value_named}
+use Rattle.rtsp_text.specs.Grammar.{is_token, is_value_byte}
+use Rattle.rtsp_text.specs.Replies.{value_named}
 use Rattle.rtsp_text.proofs.LineBounds.{all-append, all-take}
 use Rattle.rtsp_text.proofs.SingleLineTexts.{one_line-url}
 use Rattle.rtsp_text.proofs.UrlBytes.{all_of}
-use Rattle.rtsp_fields.specs.Sdp.{seconds_text}
-use Rattle.rtsp_replies.specs.Replies.{field, joined_parts, play_fields, play_text, session_text, setup_text}
-use Rattle.rtsp_replies.specs.Replies.{transport_value}
-use Rattle.std.proofs.lemmas.List.Elements.{All-cons, All-nil}
-use Rattle.rtsp_text.specs.Fields.{header_value}
-use Rattle.rtsp_replies.specs.Messages.{IsMessage}
-use Rattle.rtsp_client.specs.Replies.{IsAnswer, play_range, play_start, session_id, setup_session}
-use Rattle.connection_laws.specs.PlayReplies.{IsPlayRead}
+use Rattle.rtsp_replies.specs.Replies.{play_text, setup_text, transport_value}
 use Rattle.connection_laws.proofs.Lists.{Each}
 use Rattle.connection_laws.proofs.PlayReplyReading.{IsReplyRead, PlayNumbers, StreamInfo, play_read, read_reply}
 

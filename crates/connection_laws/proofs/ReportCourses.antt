@@ -2,18 +2,12 @@
 use Rattle.std.proofs.Common.{ℕ, ◌++◌, List, [], length, refl, sym, subst}
 use Rattle.std.proofs.lemmas.List.{append-nil}
 use Rattle.std.specs.Prelude.{Option}
-use Rattle.vod_base.specs.Links.{IoEvent}
-use Rattle.film_frames.specs.declared.stored_films.Stored.{Stored}
+use Rattle.connection_laws.proofs.Terms.{IoEvent, Stored, Settings, Activity, HasDone, Ending, AtElement, InReply}
+use Rattle.connection_laws.proofs.Terms.{Round, Stage, ending_rounds, ConnReport, Course, IsCourseBetween, first_stage}
 use Rattle.station.specs.Seats.{SeatState}
-use Rattle.film_streams.specs.declared.settings.Settings.{Settings}
 use Rattle.session.specs.RequestSteps.{new_session_state}
-use Rattle.conn.specs.Agreement.{Activity, HasDone}
 use Rattle.conn.specs.ConnectionService.{HasServedFrom}
-use Rattle.conn.specs.EventSteps.{Ending, AtElement, InReply, Round, RunsAll}
-use Rattle.conn.specs.InputSteps.{Stage}
-use Rattle.conn.specs.Plays.{ending_rounds}
-use Rattle.conn.specs.declared.reports.ConnReport.{ConnReport}
-use Rattle.connection_laws.specs.Courses.{Course, IsCourseBetween, first_stage}
+use Rattle.conn.specs.EventSteps.{RunsAll}
 use Rattle.connection_laws.specs.ReportCourses.{IsCourseOf, activity_of}
 use Rattle.connection_laws.proofs.CourseInduction.{follows_all, follows_last}
 use Rattle.conn.proofs.ReplyContents.{CourseEnd}

@@ -1,44 +1,29 @@
 -- What a request asks and how it is answered, case by case, and what that makes of a session: what is sent of a film,
 -- and the play that begins or ends.
-use Rattle.std.proofs.Common.{◌≡◌, ℕ, Bool, true, List, None, refl, subst, ◌<◌, ◌^◌, if◌then◌else◌, [], ◌∷◌}
-use Rattle.std.proofs.Common.{false, true≢false, sym, ap, ◌∙◌, ◌-◌, arith}
-use Rattle.admission.specs.Makers.{PlacedEntry}
+use Rattle.std.proofs.Common.{◌≡◌, ℕ, Bool, true, List, None, refl, subst, ◌<◌, ◌^◌, if◌then◌else◌, [], ◌∷◌, false}
+use Rattle.std.proofs.Common.{true≢false, sym, ap, ◌∙◌, ◌-◌, arith}
+use Rattle.connection_laws.proofs.Terms.{PlacedEntry, Setup, next_boundary, IsPacerState, PacerState, Segment, Ask}
+use Rattle.connection_laws.proofs.Terms.{AfterHalt, Awaited, Play, Halt, Nothing, Prepared, Init, Ready, Playing}
+use Rattle.connection_laws.proofs.Terms.{Stopping, after_admission, after_full, after_halt, after_look, after_offer}
+use Rattle.connection_laws.proofs.Terms.{after_overflow, is_answered, SessionState, OfferNote, look_in, HasHeard}
+use Rattle.connection_laws.proofs.Terms.{IsAskAnswered, Outcome, Unasked, Entered, WasFull, Offered, entry_in}
+use Rattle.connection_laws.proofs.Terms.{run_pieces, Answer, Admitted, Halted, Looked, Overflow, play_admitted, play_of}
+use Rattle.connection_laws.proofs.Terms.{Done, State, state_once_halted, StationRequest, plays_admitted, plays_begun}
+use Rattle.connection_laws.proofs.Terms.{booked_by, kept_by, kept_with, play_by}
 use Rattle.early_start.specs.StartSearch.{Offers}
-use Rattle.film_streams.specs.declared.setups.Setup.{Setup}
-use Rattle.pacer.specs.PacerStates.{next_boundary, IsPacerState, PacerState, new_pacer_state}
-use Rattle.plan_cert.specs.declared.Segment.{Segment}
-use Rattle.session.specs.declared.commands.Ask.{Ask}
+use Rattle.pacer.specs.PacerStates.{new_pacer_state}
 use Rattle.session.specs.declared.commands.Ask.TheVariants.{Reply as AskReply, Play as AskPlay, Halt as AskHalt}
 use Rattle.session.specs.declared.commands.Ask.TheVariants.{Look as AskLook, Offer as AskOffer}
-use Rattle.session.specs.declared.states.AfterHalt.{AfterHalt}
-use Rattle.session.specs.declared.states.Awaited.{Awaited}
-use Rattle.session.specs.declared.states.Awaited.TheVariants.{Play, Halt, Look, Offer, Nothing}
+use Rattle.session.specs.declared.states.Awaited.TheVariants.{Look, Offer}
 use Rattle.session.specs.declared.states.Play.{Play as Played}
-use Rattle.session.specs.declared.states.Prepared.{Prepared}
-use Rattle.session.specs.declared.states.State.TheVariants.{Init, Ready, Playing, Stopping}
-use Rattle.session.specs.RequestSteps.{after_admission, after_full, after_halt, after_look, after_offer, after_overflow}
-use Rattle.session.specs.RequestSteps.{is_answered}
-use Rattle.session.specs.SessionStates.{SessionState}
-use Rattle.session_records.specs.declared.notes.OfferNote.{OfferNote}
 use Rattle.session_laws.proofs.RunLemmas.{RunsAs, Replies, SetsUp, AsksPlay, Stops, AsksLook, AsksOffer, runs_as}
 use Rattle.session_laws.proofs.RunLemmas.{AskedHalt, AskedPlay}
-use Rattle.connection_laws.specs.LookLimits.{look_in}
-use Rattle.conn.specs.InputSteps.{HasHeard, IsAskAnswered, IsPlayAnswered, Outcome, Unasked, Entered, WasFull, Offered}
-use Rattle.conn.specs.InputSteps.{entry_in}
+use Rattle.conn.specs.InputSteps.{IsPlayAnswered}
 use Rattle.conn.proofs.StationAnswers.{AnswersAs, NoneAsked, PlayAdmitted, PlayOverflowed, PlayFull, PlayHalted}
 use Rattle.conn.proofs.StationAnswers.{LookMade, LookFull, OfferMade, IsPlayEntry, IsHaltEntry, answers_as}
-use Rattle.film_frames.specs.FramedRuns.{run_pieces}
-use Rattle.admission.specs.declared.entries.Answer.{Answer}
-use Rattle.admission.specs.declared.entries.Answer.TheVariants.{Admitted, Halted, Looked, Overflow}
 use Rattle.admission.specs.declared.entries.Command.TheVariants.{Halt as HaltCommand}
-use Rattle.admission.specs.Histories.{play_admitted}
 use Rattle.slot_calendar.specs.Plays.{Play as Booked}
-use Rattle.station.specs.Ledgers.{look_at, play_of}
-use Rattle.session.specs.declared.states.AfterHalt.TheVariants.{Done}
-use Rattle.session.specs.declared.states.State.{State}
-use Rattle.session.specs.SlotSteps.{state_once_halted}
-use Rattle.connection_laws.specs.Plays.{StationRequest, plays_admitted, plays_begun, booked_by, kept_by, kept_with}
-use Rattle.connection_laws.specs.Plays.{play_by}
+use Rattle.station.specs.Ledgers.{look_at}
 
 -- a session that is Ready asks for a play
 abbrev pub before_play : {base : SessionState} → AskedPlay base → SessionState

@@ -1,39 +1,28 @@
 -- What a session replies to a client's SETUP, PLAY and TEARDOWN.
 use Rattle.std.proofs.Common.{◌≡◌, ◌⊎◌, ℕ, ◌^◌, ◌<◌, List, [], ◌++◌, true, codes, string_bytes, Option, Some, None}
 use Rattle.std.proofs.Common.{refl, sym, ap, ap₂, subst, ◌∙◌, arith, inl, inr}
-use Rattle.film_frames.specs.declared.stored_films.Stored.{Stored}
-use Rattle.film_run.specs.declared.runs.Run.{Run}
-use Rattle.rtsp_text.specs.Fields.{header_value}
+use Rattle.connection_laws.proofs.Terms.{Stored, Run, header_value, request_head, play_parts, setup_parts}
+use Rattle.connection_laws.proofs.Terms.{teardown_parts, film_url, play_text, setup_text, teardown_text, Play, Prepared}
+use Rattle.connection_laws.proofs.Terms.{Setup, State, Init, Names, length_ms, setup_in, play_fields, session_text}
+use Rattle.connection_laws.proofs.Terms.{SessionState, has_session_in, whole_run, Stage}
 use Rattle.rtsp_text.specs.Replies.{reply_front, value_named}
-use Rattle.rtsp_text.specs.RequestTexts.{request_head}
 use Rattle.rtsp_fields.specs.SessionIds.{IsSession}
-use Rattle.rtsp_client.specs.RequestParts.{play_parts, setup_parts, teardown_parts}
-use Rattle.rtsp_client.specs.Requests.{film_url, play_text, setup_text, teardown_text}
 use Rattle.rtsp_client.proofs.RequestGrammar.{play-asked, setup-asked, teardown-asked}
-use Rattle.session.specs.declared.states.Awaited.TheVariants.{Play}
-use Rattle.session.specs.declared.states.Prepared.{Prepared}
-use Rattle.film_streams.specs.declared.setups.Setup.{Setup}
-use Rattle.session.specs.declared.states.State.{State}
-use Rattle.session.specs.declared.states.State.TheVariants.{Init}
-use Rattle.film_streams.specs.Films.{Names, length_ms, milliseconds_at}
+use Rattle.film_streams.specs.Films.{milliseconds_at}
 use Rattle.film_streams.specs.StreamNumbers.{timestamp_at}
 use Rattle.session.specs.Methods.{first_number}
-use Rattle.session_laws.specs.MethodLaws.{setup_in}
 use Rattle.session.specs.RefusalOrder.{IsOwnSession}
 use Rattle.rtsp_methods.specs.RequiredOptions.{first_of}
-use Rattle.rtsp_replies.specs.Replies.{play_fields, session_text, setup_text as setup_reply}
-use Rattle.session.specs.SessionStates.{SessionState, has_session_in}
+use Rattle.rtsp_replies.specs.Replies.{setup_text as setup_reply}
 use Rattle.session_laws.proofs.ClientReplyLemmas.{play_answered, setup_answered, teardown_answered}
 use Rattle.session_laws.proofs.PlayInReadyLemmas.{PlayStarted}
 use Rattle.session_laws.proofs.SetupLemmas.{HeardCall}
 use Rattle.session.proofs.InitialStateLemmas.{HeardMessage, heard_by}
-use Rattle.connection_laws.specs.WholePlays.{whole_run}
 use Rattle.connection_laws.proofs.ClientSetups.{range_is, settled_by, Beginning}
 use Rattle.connection_laws.proofs.KeptParts.{IsSameSetup, names_in}
 use Rattle.connection_laws.proofs.SetupOnly.{IsUnbegun, IsWaiting}
 use Rattle.connection_laws.proofs.FirstPlays.{planned_whole}
 use Rattle.connection_laws.proofs.CourseInduction.{AnsweredRequest}
-use Rattle.conn.specs.InputSteps.{Stage}
 
 -- ---- SETUP
 

@@ -2,31 +2,22 @@
 -- requests before a play stand before its film, and those to requests once it was due after it.
 use Rattle.std.proofs.Common.{◌≡◌, ℕ, ◌+◌, ◌<◌, ◌≤◌, List, ◌∷◌, drop, ap, ◌∙◌, arith, inl, ◌++◌, length, sum, get_or}
 use Rattle.std.proofs.Common.{codes, refl, sym, subst, slice_index, ◌^◌, map, []}
-use Rattle.film_frames.specs.Tracks.{IsBoundary, framed_bytes}
-use Rattle.rtsp_replies.specs.Messages.{IsMessage}
-use Rattle.connection_laws.specs.ClientRequests.{IsDueBy, IsAskedFor, AreInRange}
-use Rattle.connection_laws.specs.ReplyPlaces.{AreSentAt, IsBoundaryIn, IsSentAt, IsUnsentAt, slots_from}
-use Rattle.connection_laws.specs.WholePlays.{AreAfter, HasPlayedWhole, IsWholePlay, film_blocks, playback_of, whole_run}
-use Rattle.connection_laws.specs.Plays.{FilmPlay, due_by, due_of}
-use Rattle.connection_laws.specs.Replies.{PlacedText, placed_text, course_replies, course_texts, waiting_reply, text_of}
+use Rattle.std.proofs.lemmas.List.{append-nil}
+use Rattle.connection_laws.proofs.Terms.{IsBoundary, framed_bytes, IsMessage, IsAskedFor, AreInRange, AreSentAt}
+use Rattle.connection_laws.proofs.Terms.{IsBoundaryIn, IsSentAt, IsUnsentAt, slots_from, AreAfter, HasPlayedWhole}
+use Rattle.connection_laws.proofs.Terms.{IsWholePlay, film_blocks, playback_of, whole_run, FilmPlay, due_of, PlacedText}
+use Rattle.connection_laws.proofs.Terms.{placed_text, course_replies, course_texts, waiting_reply, text_of, Stored}
+use Rattle.connection_laws.proofs.Terms.{stored_sizes, Identity, teardown_parts, film_url, play_text, setup_text}
+use Rattle.connection_laws.proofs.Terms.{teardown_text, Wish, IsRequest, request_head, IsPrefixOf, Course, course_plays}
+use Rattle.connection_laws.proofs.Terms.{greatest_slot, rounds_input, length_ms, AreAnswers, AreGoodReplies}
+use Rattle.connection_laws.specs.ClientRequests.{IsDueBy}
+use Rattle.connection_laws.specs.Plays.{due_by}
 use Rattle.connection_laws.proofs.OnePlay.{AreBefore, IsPlayedWhole, Outlook, setup_no_play, AreRead, course_walk}
 use Rattle.connection_laws.proofs.CompleteReplies.{AreTeardowns, AreWhole, IsTeardownOf}
 use Rattle.connection_laws.proofs.TextPlaces.{none_due}
-use Rattle.std.proofs.lemmas.List.{append-nil}
-use Rattle.film_frames.specs.declared.stored_films.Stored.{Stored}
 use Rattle.film_run.proofs.PlanLemmas.{sending-keeps}
-use Rattle.film_run.specs.Units.{stored_sizes}
-use Rattle.rtp_pack.specs.declared.reports.Identity.{Identity}
-use Rattle.rtsp_client.specs.RequestParts.{teardown_parts}
-use Rattle.rtsp_client.specs.Requests.{film_url, play_text, setup_text, teardown_text}
-use Rattle.rtsp_client.specs.declared.watch_request.Wish.{Wish}
 use Rattle.rtsp_client.proofs.RequestGrammar.{play-asked, setup-asked, teardown-asked}
-use Rattle.rtsp_text.specs.Requests.{IsRequest}
-use Rattle.rtsp_text.specs.RequestTexts.{request_head}
 use Rattle.rtsp_text.proofs.MessageUniqueness.{request_once}
-use Rattle.conn.specs.EventSteps.{IsPrefixOf}
-use Rattle.connection_laws.specs.Courses.{Course, course_plays, greatest_slot}
-use Rattle.connection_laws.specs.Requests.{rounds_input}
 use Rattle.connection_laws.proofs.Requests.{AreFound, joined, requests_front}
 use Rattle.connection_laws.proofs.FilmReading.{run_total}
 use Rattle.connection_laws.proofs.SetupOnly.{AreNoPlays, IsNoPlay, IsWaiting, none_played}
@@ -35,8 +26,6 @@ use Rattle.session_laws.proofs.CompleteReplyLemmas.{begins_named}
 use Rattle.connection_laws.proofs.EndToEndMeter.{rest_all}
 use Rattle.connection_laws.proofs.CourseSteps.{replies_sent, first_stands}
 use Rattle.connection_laws.proofs.FirstPlays.{IsWished, WishedFilm}
-use Rattle.film_streams.specs.Films.{length_ms}
-use Rattle.connection_laws.specs.WatchEnds.{AreAnswers, AreGoodReplies}
 use Rattle.connection_laws.proofs.FilmReplies.{IsFilmAnswer}
 use Rattle.connection_laws.proofs.ReplyReadings.{IsPlayAnswer}
 use Rattle.connection_laws.proofs.WatchedFilms.{IsServed}

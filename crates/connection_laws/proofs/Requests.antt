@@ -4,25 +4,18 @@ use Rattle.std.proofs.Common.{◌≡◌, ◌⊎◌, ℕ, ◌<◌, ◌++◌, ◌|
 use Rattle.std.proofs.Common.{length, take, drop, map, get_or, refl, ap, sym, ◌∙◌, subst, inl, inr, arith, []}
 use Rattle.std.proofs.lemmas.List.{append-nil, append_assoc, get_or-take, drop_at, take-append-drop, take_at}
 use Rattle.std.proofs.lemmas.List.{map-append}
-use Rattle.vod_base.specs.Links.{IoEvent, HeardBytes, HeardSlot}
-use Rattle.interleave.specs.Heads.{is_line_end}
-use Rattle.interleave.specs.Elements.{IsFirst, StartsMessage}
-use Rattle.interleave.specs.Streams.{AreInputElements, IsElementLength, WholeMessage}
-use Rattle.interleave.specs.declared.elements.Step.TheVariants.{More, Request}
+use Rattle.std.specs.Prelude.{⊤}
+use Rattle.connection_laws.proofs.Terms.{IoEvent, HeardBytes, HeardSlot, is_line_end, IsFirst, StartsMessage}
+use Rattle.connection_laws.proofs.Terms.{AreInputElements, IsElementLength, WholeMessage, More, Request, Comes}
+use Rattle.connection_laws.proofs.Terms.{IsStopped, Round, IsPrefixOf, Answered, Outcome, SentPart, Passed, Stage}
+use Rattle.connection_laws.proofs.Terms.{ElementStep, TakesAll, stage, ConnEnd, TornDown, HeadTooLong, BodyTooLong}
+use Rattle.connection_laws.proofs.Terms.{IsCourseBetween, first_stage, Course, Beginning, InputSplit, IsDrained}
+use Rattle.connection_laws.proofs.Terms.{TakesUp, heard_requests_in, heard_requests_taken, bytes_in, rounds_input}
 use Rattle.interleave.specs.declared.elements.DemuxFault.TheVariants.{HeadTooLong as LongHead, BodyTooLong as LongBody}
 use Rattle.interleave.proofs.StreamElements.{cut_grows, tells_none, cuts_agree}
-use Rattle.conn.specs.EventSteps.{Comes, IsStopped, Round, IsPrefixOf}
-use Rattle.conn.specs.InputSteps.{Answered, Outcome, SentPart, Passed, Stage, ElementStep, TakesAll, stage}
-use Rattle.conn.specs.declared.reports.ConnEnd.{ConnEnd}
-use Rattle.conn.specs.declared.reports.ConnEnd.TheVariants.{TornDown, HeadTooLong, BodyTooLong}
-use Rattle.connection_laws.specs.Courses.{IsCourseBetween, first_stage, Course}
-use Rattle.connection_laws.specs.InputSplits.{Beginning, InputSplit, IsDrained, TakesUp}
-use Rattle.connection_laws.specs.InputSplits.{heard_requests_in, heard_requests_taken}
-use Rattle.connection_laws.specs.Requests.{AreTaken, AwaitsReply, bytes_in, is_no_request, message_of, requests_in}
-use Rattle.connection_laws.specs.Requests.{rounds_input}
+use Rattle.connection_laws.specs.Requests.{AreTaken, AwaitsReply, is_no_request, message_of, requests_in}
 use Rattle.connection_laws.proofs.ElementPaths.{GoesAll, IsOver, AnEnd, ABlock, Over, Element, RequestElement}
 use Rattle.connection_laws.proofs.ElementPaths.{over_element, path_of, exchange_of, Exchange}
-use Rattle.std.specs.Prelude.{⊤}
 use Rattle.connection_laws.proofs.CourseInduction.{begin_of, takings_requests, rounds_requests}
 use Rattle.connection_laws.proofs.ElementStreams.{no_element}
 

@@ -5,14 +5,11 @@ use Rattle.std.proofs.Common.{sym, ap, subst, ◌∙◌, arith, inl, inr}
 use Rattle.std.proofs.lemmas.Bool.{cases_lt}
 use Rattle.std.proofs.lemmas.List.{append-nil, drop_all, length-append, length-take, take_all}
 use Rattle.std.proofs.Math.Seq.{drop-nil, take-append-add, take-nil}
-use Rattle.vod_base.specs.Links.{IoEvent, Sent, sends}
-use Rattle.film_frames.specs.Tracks.{framed_bytes}
-use Rattle.conn.specs.EventSteps.{Round, round_bytes, rounds_doings}
-use Rattle.conn.specs.InputSteps.{Film, SentPart, Text, film_bytes, parts_bytes}
-use Rattle.connection_laws.specs.Courses.{greatest_slot, rounds_bytes}
-use Rattle.connection_laws.specs.Replies.{PlacedText, placed_text, placed_texts, text_of, insert_texts}
-use Rattle.connection_laws.specs.LinkDelivery.{latest_slot, sent_bytes}
-use Rattle.connection_laws.specs.WholePlays.{AreAfter}
+use Rattle.connection_laws.proofs.Terms.{IoEvent, Sent, sends, framed_bytes, Round, round_bytes, rounds_doings}
+use Rattle.connection_laws.proofs.Terms.{SentPart, Text, film_bytes, parts_bytes, greatest_slot, rounds_bytes}
+use Rattle.connection_laws.proofs.Terms.{PlacedText, placed_text, placed_texts, text_of, insert_texts, latest_slot}
+use Rattle.connection_laws.proofs.Terms.{sent_bytes, AreAfter}
+use Rattle.conn.specs.InputSteps.{Film}
 use Rattle.connection_laws.proofs.Lists.{Each, joins_parts}
 
 -- ---- texts among parts

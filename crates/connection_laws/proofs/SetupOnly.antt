@@ -1,14 +1,16 @@
 -- Requests other than PLAY begin no play. A connection that is asked for SETUP alone, before PLAY, plays nothing; where
 -- SETUP was answered 200 it settled what was wished.
 use Rattle.std.specs.Prelude.{⊤}
-use Rattle.std.proofs.Common.{ℕ, ◌≡◌, ◌≢◌, List, [], ◌++◌, codes, refl, ap, ◌∙◌, if◌then◌else◌, Bool, true, false}
-use Rattle.std.proofs.Common.{None, sym, subst}
+use Rattle.std.proofs.Common.{ℕ, ◌≡◌, ◌≢◌, List, [], ◌++◌, codes, refl, ap, ◌∙◌, if◌then◌else◌, Bool, true, false, None}
+use Rattle.std.proofs.Common.{sym, subst}
+use Rattle.std.proofs.lemmas.Bool.{true≢false}
+use Rattle.connection_laws.proofs.Terms.{SessionState, awaited_answer_of, Outcome, Stage, IsAskAnswered, Unasked}
+use Rattle.connection_laws.proofs.Terms.{Course, course_plays, StationRequest, plays_begun, plays_of, Stored}
+use Rattle.connection_laws.proofs.Terms.{request_head, setup_parts, film_url, setup_text, Wish, Ask, Nothing, Settings}
+use Rattle.connection_laws.proofs.Terms.{StreamSource, State, Init, Ready, Playing, Stopping, Names, after_play}
+use Rattle.connection_laws.proofs.Terms.{can_reply, is_sending, is_taken, sent_reply, sent_slot, after_stop, Round}
 use Rattle.session.specs.RefusalOrder.{IsReadAs}
-use Rattle.session.specs.SessionStates.{SessionState, awaited_answer_of}
 use Rattle.rtsp_text.specs.declared.requests.Request.{Request}
-use Rattle.conn.specs.InputSteps.{Outcome, Stage, IsAskAnswered, Unasked}
-use Rattle.connection_laws.specs.Courses.{Course, course_plays}
-use Rattle.connection_laws.specs.Plays.{StationRequest, plays_begun, plays_of}
 use Rattle.connection_laws.proofs.CourseSteps.{Stands, request_turns, request_stands, stands_by, event_step}
 use Rattle.connection_laws.proofs.CourseSteps.{first_stands}
 use Rattle.session_laws.proofs.PlayInReadyLemmas.{play_started}
@@ -16,27 +18,11 @@ use Rattle.session.proofs.InitialStateLemmas.{heard_by}
 use Rattle.connection_laws.proofs.BookedPlays.{comes_none}
 use Rattle.connection_laws.proofs.RequestEffects.{Ends, Starts, Stays}
 use Rattle.connection_laws.proofs.StationAnswers.{nothing_left}
-use Rattle.std.proofs.lemmas.Bool.{true≢false}
-use Rattle.film_frames.specs.declared.stored_films.Stored.{Stored}
-use Rattle.rtsp_text.specs.RequestTexts.{request_head}
-use Rattle.rtsp_client.specs.RequestParts.{setup_parts}
-use Rattle.rtsp_client.specs.Requests.{film_url, setup_text}
-use Rattle.rtsp_client.specs.declared.watch_request.Wish.{Wish}
-use Rattle.session.specs.declared.commands.Ask.{Ask}
 use Rattle.session.specs.declared.commands.Ask.TheVariants.{Reply}
-use Rattle.session.specs.declared.states.Awaited.TheVariants.{Nothing}
-use Rattle.film_streams.specs.declared.settings.Settings.{Settings}
-use Rattle.film_streams.specs.declared.stream_numbers.StreamSource.{StreamSource}
-use Rattle.session.specs.declared.states.State.{State}
-use Rattle.session.specs.declared.states.State.TheVariants.{Init, Ready, Playing, Stopping}
-use Rattle.film_streams.specs.Films.{Names}
-use Rattle.session.specs.SlotSteps.{after_play, can_reply, is_sending, is_taken, sent_reply, sent_slot}
-use Rattle.session.specs.SlotTransitions.{after_stop}
 use Rattle.connection_laws.proofs.ClientSetups.{IsSettled, settled_by, setup_is, Beginning}
 use Rattle.session_laws.proofs.SetupLemmas.{IsSetupRequest, SetupHeard, Refused, Settled, setup_heard}
 use Rattle.connection_laws.proofs.CourseInduction.{AnsweredRequest, Piece, GoesBack, course_back, rounds_requests}
 use Rattle.conn.proofs.StationAnswers.{ComesAs, BytesCame, SlotCame}
-use Rattle.conn.specs.EventSteps.{Round}
 use Rattle.connection_laws.proofs.Lists.{Each}
 
 abbrev pub IsNoPlay : List ℕ → Type 0

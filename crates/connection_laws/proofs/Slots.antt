@@ -1,27 +1,18 @@
 -- What a request, a reply and a slot make of what is being sent.
-use Rattle.std.proofs.Common.{◌≡◌, ℕ, ◌+◌, ◌≤◌, ◌&&◌, if◌then◌else◌, Bool, true, false, length, refl, sym}
-use Rattle.std.proofs.Common.{ap, ◌∙◌, subst, arith}
-use Rattle.film_frames.specs.Tracks.{IsBoundary, framed_bytes}
-use Rattle.pacer.specs.PacerStates.{IsPacerState, PacerState, after_step, first_slots, next_boundary}
-use Rattle.pacer.specs.PacerStates.{stands_at_boundary}
+use Rattle.std.proofs.Common.{◌≡◌, ℕ, ◌+◌, ◌≤◌, ◌&&◌, if◌then◌else◌, Bool, true, false, length, refl, sym, ap, ◌∙◌}
+use Rattle.std.proofs.Common.{subst, arith}
+use Rattle.connection_laws.proofs.Terms.{IsBoundary, framed_bytes, IsPacerState, PacerState, after_step, first_slots}
+use Rattle.connection_laws.proofs.Terms.{next_boundary, stands_at_boundary, Setup, State, Playing, Stopping, is_between}
+use Rattle.connection_laws.proofs.Terms.{stepped_in, after_stop, Outcome, Awaited, SessionState, total_bytes}
+use Rattle.connection_laws.proofs.Terms.{boundary_from}
 use Rattle.pacer.proofs.PacerStateLemmas.{boundary-from}
 use Rattle.session.specs.declared.states.Play.{Play as Played}
 use Rattle.session.specs.declared.states.Stop.{Stop}
-use Rattle.film_streams.specs.declared.setups.Setup.{Setup}
-use Rattle.session.specs.declared.states.State.{State}
-use Rattle.session.specs.declared.states.State.TheVariants.{Playing, Stopping}
-use Rattle.session.specs.SlotSteps.{is_between, stepped_in}
-use Rattle.session.specs.SlotTransitions.{after_stop}
-use Rattle.conn.specs.InputSteps.{Outcome}
 use Rattle.connection_laws.proofs.JoinedFilms.{IsAtLast, IsOnTime, IsSound}
 use Rattle.connection_laws.proofs.RequestEffects.{Ending, Going, Idle, Sends, sends_in, Starts, Stays, TurnsAs, Ends}
 use Rattle.conn.proofs.EventPremises.{SlotPacings}
 use Rattle.conn.proofs.FilmBytes.{sent_through, slot_is}
 use Rattle.conn.proofs.PlayProgress.{state_after_slot}
-use Rattle.session.specs.declared.states.Awaited.{Awaited}
-use Rattle.session.specs.SessionStates.{SessionState}
-use Rattle.plan_cert.specs.PlanSlots.{total_bytes}
-use Rattle.pacer.specs.Boundaries.{boundary_from}
 use Rattle.pacer.proofs.SlotStepLemmas.{most-slots}
 
 -- at a boundary the rest of a halted play was sent

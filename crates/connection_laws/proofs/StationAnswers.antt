@@ -1,22 +1,15 @@
 -- What the station can answer, case by case, in a slot and as a connection ends; and the session after each answer.
 use Rattle.std.proofs.Common.{◌≡◌, ℕ, ◌^◌, ◌<◌, List, Option, Some, None, refl, ap, sym, ◌&&◌, if◌then◌else◌, Bool}
 use Rattle.std.proofs.Common.{nat_lt, nat_le, [], true, false}
-use Rattle.admission.specs.declared.entries.Answer.{Answer}
-use Rattle.admission.specs.declared.entries.Answer.TheVariants.{Admitted, Halted, Looked, Overflow}
-use Rattle.admission.specs.Makers.{PlacedEntry}
-use Rattle.session.specs.declared.commands.Ask.{Ask}
-use Rattle.session.specs.declared.states.AfterHalt.{AfterHalt}
-use Rattle.session.specs.declared.states.Awaited.{Awaited}
-use Rattle.session.specs.declared.states.Awaited.TheVariants.{Halt}
-use Rattle.session.specs.RequestSteps.{after_admission, after_full, after_halt, after_look, after_offer, after_overflow}
-use Rattle.session.specs.SlotSteps.{after_slot, after_play, is_sending, sent_slot}
-use Rattle.session.specs.SessionStates.{OpenBooking, SessionState, awaited_answer_of, AwaitedAnswer, NoAnswer}
-use Rattle.session.specs.SessionStates.{HaltAnswer}
-use Rattle.conn.specs.InputSteps.{IsClosed, Outcome, Unasked, Entered, WasFull, Offered, SentPart, slot_parts}
-use Rattle.conn.specs.InputSteps.{due_parts}
 use Rattle.std.proofs.lemmas.Bool.{and_parts, ltb-true}
-use Rattle.conn.proofs.StationAnswers.{AnswersAs, PlayAdmitted, PlayOverflowed, PlayHalted, LookMade}
-use Rattle.conn.proofs.StationAnswers.{FinishesAs, NothingLeft, DoneHalted, finishes_as}
+use Rattle.connection_laws.proofs.Terms.{Answer, Admitted, Halted, Looked, Overflow, PlacedEntry, Ask, AfterHalt}
+use Rattle.connection_laws.proofs.Terms.{Awaited, Halt, after_admission, after_full, after_halt, after_look}
+use Rattle.connection_laws.proofs.Terms.{after_offer, after_overflow, after_slot, after_play, is_sending, sent_slot}
+use Rattle.connection_laws.proofs.Terms.{OpenBooking, SessionState, awaited_answer_of, AwaitedAnswer, NoAnswer}
+use Rattle.connection_laws.proofs.Terms.{HaltAnswer, IsClosed, Outcome, Unasked, Entered, WasFull, Offered, SentPart}
+use Rattle.connection_laws.proofs.Terms.{slot_parts, due_parts}
+use Rattle.conn.proofs.StationAnswers.{AnswersAs, PlayAdmitted, PlayOverflowed, PlayHalted, LookMade, FinishesAs}
+use Rattle.conn.proofs.StationAnswers.{NothingLeft, DoneHalted, finishes_as}
 
 -- the session after an answer
 abbrev after_entry : SessionState → PlacedEntry → Answer → SessionState

@@ -2,14 +2,13 @@
 use Rattle.std.proofs.Common.{◌≡◌, ℕ, ◌+◌, ◌-◌, ◌<◌, ◌≤◌, List, ◌∷◌, Option, Some, None, length, refl, ap, ◌∙◌, subst}
 use Rattle.std.proofs.Common.{inl, inr, arith, ◌++◌, append_assoc, take, drop, sym, []}
 use Rattle.std.proofs.lemmas.List.Sums.{sum_by-cons}
-use Rattle.film_frames.specs.Tracks.{IsBoundary, framed_bytes}
-use Rattle.pacer.specs.PacerStates.{PacerState, first_slots, IsPacerState, plan_bytes}
-use Rattle.conn.specs.InputSteps.{SentPart, Film, Text, film_bytes}
-use Rattle.connection_laws.specs.ReplyPlaces.{AreSentAt, IsBoundaryIn, IsSentAt, IsUnsentAt}
-use Rattle.connection_laws.specs.Plays.{FilmPlay, due_by as all_due, due_of, film_of}
-use Rattle.connection_laws.specs.Replies.{placed_text, placed_texts}
-use Rattle.connection_laws.proofs.JoinedFilms.{play_with, IsFilm, sent_to, film_in}
 use Rattle.std.proofs.lemmas.List.{length-take, length-drop}
+use Rattle.connection_laws.proofs.Terms.{IsBoundary, framed_bytes, PacerState, first_slots, IsPacerState, plan_bytes}
+use Rattle.connection_laws.proofs.Terms.{SentPart, Text, film_bytes, AreSentAt, IsBoundaryIn, IsSentAt, IsUnsentAt}
+use Rattle.connection_laws.proofs.Terms.{FilmPlay, due_of, film_of, placed_text, placed_texts}
+use Rattle.conn.specs.InputSteps.{Film}
+use Rattle.connection_laws.specs.Plays.{due_by as all_due}
+use Rattle.connection_laws.proofs.JoinedFilms.{play_with, IsFilm, sent_to, film_in}
 use Rattle.connection_laws.proofs.Lists.{Each, each_weaker}
 
 due_cons : (slot : ℕ) (play : FilmPlay) (plays : List FilmPlay)

@@ -1,17 +1,14 @@
 -- What a connection does with a request or a slot has one result, by what the station and the memory answer.
 use Rattle.std.specs.Prelude.{⊤}
 use Rattle.std.proofs.Common.{◌≡◌, ℕ, ◌++◌, Bool, true, false, List, [], ◌∷◌, refl, ap, sym, ◌∙◌, subst, inl, inr}
-use Rattle.session.specs.declared.commands.Ask.{Ask}
+use Rattle.connection_laws.proofs.Terms.{Ask, Hears, AreFilms, after_slot, SessionState, AwaitedAnswer, HaltAnswer}
+use Rattle.connection_laws.proofs.Terms.{awaited_answer, Outcome, Unasked, SentPart, HasStepped, IsAskAnswered}
+use Rattle.connection_laws.proofs.Terms.{AreSameAnswers, HeardRequest, LackMemoryAlike, answer_in}
 use Rattle.session.specs.declared.commands.Ask.TheVariants.{Reply as AskReply}
-use Rattle.session.specs.RequestSteps.{Hears}
 use Rattle.session.specs.Laws.{IsOneAnswer}
-use Rattle.film_streams.specs.SettingRanges.{AreFilms}
 use Rattle.session.proofs.InitialStateLemmas.{heard_by}
 use Rattle.session_laws.proofs.AnswerUniqueness.{hears_once}
-use Rattle.session.specs.SlotSteps.{after_slot}
-use Rattle.session.specs.SessionStates.{SessionState, AwaitedAnswer, HaltAnswer, awaited_answer}
-use Rattle.conn.specs.InputSteps.{Outcome, Unasked, SentPart, HasStepped, IsAskAnswered}
-use Rattle.connection_laws.specs.InputSplits.{AreSameAnswers, HeardRequest, LackMemoryAlike, RanOutOfMemory, answer_in}
+use Rattle.connection_laws.specs.InputSplits.{RanOutOfMemory}
 use Rattle.connection_laws.proofs.StationAnswers.{after_outcome, answer_leaves, finish_leaves}
 use Rattle.conn.proofs.StationAnswers.{AnswersAs, NoneAsked, answers_as, FinishesAs, NothingLeft, DoneHalted}
 use Rattle.conn.proofs.StationAnswers.{finishes_as}

@@ -6,23 +6,19 @@ use Rattle.std.proofs.lemmas.Bool.{cases_lt, cond-true, cond-false, and_from}
 use Rattle.std.proofs.lemmas.List.{append-nil, length-append, take-append-le, take_all}
 use Rattle.std.proofs.lemmas.List.Sums.{sum_by-cons}
 use Rattle.std.proofs.Math.Seq.{take-append-add}
+use Rattle.connection_laws.proofs.Terms.{AreLaid, Packet, unit_packets, frames_among, framed_bytes, pieces_of}
+use Rattle.connection_laws.proofs.Terms.{unit_pieces, wire_size, FramedRun, blocks_from, count_ended}
+use Rattle.connection_laws.proofs.Terms.{events_of_elements, element_events, Frame, ClientEvent, Report, is_last}
+use Rattle.connection_laws.proofs.Terms.{frames_of}
 use Rattle.mpeg_scan.specs.declared.units.Unit.{Unit as PictureUnit}
-use Rattle.mpeg_scan.specs.Layout.{AreLaid}
-use Rattle.rtp_pack.specs.declared.payloads.Packet.{Packet}
 use Rattle.rtp_pack.specs.Laws.{IsLastMarked}
-use Rattle.rtp_pack.specs.Packets.{IsLaid, unit_packets}
+use Rattle.rtp_pack.specs.Packets.{IsLaid}
 use Rattle.rtp_pack.proofs.MarkerLemmas.{last-marked}
 use Rattle.rtp_pack.proofs.UnitPacketLemmas.{packets-are, packets-cover}
-use Rattle.film_frames.specs.Laws.{frames_among}
-use Rattle.film_frames.specs.Tracks.{framed_bytes}
-use Rattle.film_frames.specs.Pieces.{pieces_of, unit_pieces, wire_in, wire_size}
-use Rattle.film_frames.specs.FramedRuns.{FramedRun, blocks_from, count_ended}
+use Rattle.film_frames.specs.Pieces.{wire_in}
 use Rattle.film_frames.proofs.PieceLemmas.{pieces-cons, unit-sound, unit-wire}
 use Rattle.film_frames.proofs.RunBytesLemmas.{blocks_from-begin, blocks_from-count}
 use Rattle.film_frames.proofs.TrackLemmas.{begin-all}
-use Rattle.rtsp_client.specs.Answers.{events_of_elements, element_events}
-use Rattle.rtsp_client.specs.ClientHistory.{Frame, ClientEvent, Report, is_last}
-use Rattle.rtsp_client.specs.MeterGuarantee.{frames_of}
 use Rattle.rtsp_client.proofs.RunFrames.{has-packet}
 use Rattle.connection_laws.proofs.Blocks.{blocks_append, frame_block, frame_blocks, frame_moment, frames_after, last_is}
 use Rattle.connection_laws.proofs.Blocks.{octets_after, report_block, report_if, report_moment, unit_among, unit_blocks}

@@ -2,21 +2,19 @@
 use Rattle.std.proofs.Common.{◌≡◌, ℕ, ◌+◌, ◌-◌, ◌<◌, ◌≤◌, ◌++◌, if◌then◌else◌, Bool, true, false, min, List, ◌∷◌}
 use Rattle.std.proofs.Common.{Option, Some, None, length, refl, ap, sym, ◌∙◌, subst, inl, inr, arith, eq-eqb, ◌&&◌}
 use Rattle.std.proofs.Common.{take, []}
-use Rattle.conn.proofs.ReplyPlacement.{boundary_here}
 use Rattle.std.proofs.lemmas.Bool.{cases_lt, true≢false}
 use Rattle.std.proofs.lemmas.List.{append_assoc}
-use Rattle.film_frames.specs.Tracks.{IsBoundary, IsBoundaryAfter, framed_bytes}
-use Rattle.pacer.specs.Boundaries.{boundary_from}
-use Rattle.pacer.specs.PacerStates.{IsPacerState, PacerState, due_by, first_slots, next_boundary, plan_bytes, at_slot}
-use Rattle.pacer.specs.PacerStates.{stands_at_boundary, step_end, after_step}
+use Rattle.connection_laws.proofs.Terms.{IsBoundary, framed_bytes, boundary_from, IsPacerState, PacerState, due_by}
+use Rattle.connection_laws.proofs.Terms.{first_slots, next_boundary, plan_bytes, stands_at_boundary, after_step}
+use Rattle.connection_laws.proofs.Terms.{total_bytes, SentPart, Text, film_bytes, AreSentAt, StationRequest, FilmPlay}
+use Rattle.connection_laws.proofs.Terms.{due_of, kept_in, plays_of, placed_texts}
+use Rattle.conn.proofs.ReplyPlacement.{boundary_here}
+use Rattle.film_frames.specs.Tracks.{IsBoundaryAfter}
+use Rattle.pacer.specs.PacerStates.{at_slot, step_end}
 use Rattle.pacer.proofs.PacerStateLemmas.{boundary-from, boundary-is, first-slots-rise}
-use Rattle.plan_cert.specs.PlanSlots.{total_bytes}
-use Rattle.conn.specs.InputSteps.{SentPart, Film, Text, film_bytes}
+use Rattle.conn.specs.InputSteps.{Film}
 use Rattle.pacer.proofs.SlotStepLemmas.{most-slots}
 use Rattle.conn.proofs.FilmBytes.{sent_through, slot_is, stopped_is}
-use Rattle.connection_laws.specs.ReplyPlaces.{AreSentAt}
-use Rattle.connection_laws.specs.Plays.{StationRequest, FilmPlay, due_of, kept_in, plays_of}
-use Rattle.connection_laws.specs.Replies.{placed_texts}
 use Rattle.connection_laws.proofs.JoinedFilms.{IsOnTime, play_with, through_time, film_holds, due_now, EndedPlay}
 use Rattle.connection_laws.proofs.JoinedFilms.{stays_due, film_in, spent}
 use Rattle.connection_laws.proofs.TextPlaces.{AreFrom, AreLater, IsAtNext, StandAt, film_at, later_lower, text_at}

@@ -3,31 +3,20 @@ use Rattle.std.proofs.Common.{◌≡◌, ℕ, ◌-◌, ◌<◌, ◌≤◌, List,
 use Rattle.std.proofs.Common.{sym, ap, subst, ◌∙◌, append_assoc, arith, inl, inr}
 use Rattle.std.proofs.lemmas.List.{append-nil, length-map}
 use Rattle.std.proofs.lemmas.List.Concat.{flat_map-append}
-use Rattle.vod_base.specs.Links.{IoEvent, HeardBytes, sends}
-use Rattle.mpeg_scan.specs.declared.films.Film.{Film}
+use Rattle.connection_laws.proofs.Terms.{IoEvent, HeardBytes, sends, Film, picture_time, wire_size, framed_bytes, Wish}
+use Rattle.connection_laws.proofs.Terms.{Watched, WatchEnd, Gives, history_after, events_of_elements, payloads_of, Ends}
+use Rattle.connection_laws.proofs.Terms.{HasCourse, IsNext, RunsAll, WatchStage, StopsAt, events_of_rounds, first_slot}
+use Rattle.connection_laws.proofs.Terms.{History, ClientEvent, payloads, replies, IsBetweenAlways, setup_text, IsWish}
+use Rattle.connection_laws.proofs.Terms.{heard_bytes, bytes_in}
 use Rattle.mpeg_scan.specs.declared.units.Unit.{Unit as PictureUnit}
-use Rattle.mpeg_scan.specs.PictureRates.{picture_time}
 use Rattle.mpeg_scan.proofs.FirstUnitLemmas.{film-some}
-use Rattle.film_frames.specs.Pieces.{wire_size}
-use Rattle.film_frames.specs.Tracks.{framed_bytes}
-use Rattle.rtsp_client.specs.declared.watch_request.Wish.{Wish}
-use Rattle.rtsp_client.specs.declared.watch_request.Watched.{Watched}
-use Rattle.rtsp_client.specs.declared.watch_request.WatchEnd.{WatchEnd}
 use Rattle.rtsp_client.specs.declared.watch_request.WatchEnd.TheVariants.{Done}
-use Rattle.rtsp_client.specs.Answers.{Gives, history_after, events_of_elements, payload_of, payloads_of, requests_after}
-use Rattle.rtsp_client.specs.WatchCourses.{Ends, HasCourse, IsNext, Round, RunsAll, WatchStage, Stops, StopsAt}
-use Rattle.rtsp_client.specs.WatchCourses.{events_of_rounds, rounds_doings, stage}
-use Rattle.rtsp_client.specs.Meters.{first_slot}
-use Rattle.rtsp_client.specs.ClientHistory.{History, ClientEvent, payloads, replies}
-use Rattle.rtsp_client.specs.MeterGuarantee.{IsBetweenAlways}
-use Rattle.rtsp_client.specs.Requests.{setup_text}
-use Rattle.rtsp_client.specs.WatchRequests.{IsWish}
+use Rattle.rtsp_client.specs.Answers.{payload_of, requests_after}
+use Rattle.rtsp_client.specs.WatchCourses.{Round, Stops, rounds_doings, stage}
 use Rattle.rtsp_client.proofs.MeterBounds.{quiet-always}
 use Rattle.rtsp_client.proofs.ElementSteps.{after-on}
 use Rattle.rtsp_client.proofs.EventCourses.{history-later}
-use Rattle.connection_laws.specs.LinkDelivery.{heard_bytes}
 use Rattle.connection_laws.proofs.FilmReading.{film_comes_back, film_sizes, whole_of, done_sum, WholeStream}
-use Rattle.connection_laws.specs.Requests.{bytes_in}
 use Rattle.connection_laws.proofs.ClientInput.{Heard, IsDrained, at_done, heard_all, heard_more, heard_none}
 use Rattle.connection_laws.proofs.ClientInput.{replies_later, rounds_heard}
 use Rattle.connection_laws.proofs.MeterInput.{all_of}

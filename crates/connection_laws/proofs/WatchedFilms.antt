@@ -2,40 +2,29 @@
 -- stream refuses none of it, and comes to `Done` once all of it came.
 use Rattle.std.proofs.Common.{ℕ, ◌-◌, List, [], ◌∷◌, ◌++◌, Some, ap, subst, sym, ◌∙◌, ◌≡◌, length, take, Ok, refl, inl}
 use Rattle.std.proofs.Common.{inr, ◌+◌, ◌^◌, ◌<◌, map, arith}
-use Rattle.vod_base.specs.Links.{IoEvent, HeardBytes, sends}
-use Rattle.film_frames.specs.declared.stored_films.Stored.{Stored}
-use Rattle.film_frames.specs.Tracks.{framed_bytes}
-use Rattle.conn.specs.EventSteps.{rounds_doings, IsPrefixOf}
-use Rattle.rtsp_client.specs.WatchCourses.{HasCourse, Ends, Round, RunsAll, WatchStage, StopsAt, stage}
-use Rattle.rtsp_client.specs.Meters.{first_slot, watched_in}
-use Rattle.rtsp_client.specs.WatchRequests.{IsWish}
+use Rattle.std.proofs.lemmas.List.{append-nil}
+use Rattle.connection_laws.proofs.Terms.{IoEvent, HeardBytes, sends, Stored, framed_bytes, rounds_doings, IsPrefixOf}
+use Rattle.connection_laws.proofs.Terms.{HasCourse, Ends, RunsAll, WatchStage, StopsAt, first_slot, watched_in, IsWish}
+use Rattle.connection_laws.proofs.Terms.{Watched, Wish, IsCarried, heard_bytes, sent_bytes, Course, HasPlayedWhole}
+use Rattle.connection_laws.proofs.Terms.{IsFirst, AreInputElements, More, WatchEnd, history_after, events_of_elements}
+use Rattle.connection_laws.proofs.Terms.{AreGoodReplies, PlacedText, text_of}
+use Rattle.rtsp_client.specs.WatchCourses.{Round, stage}
 use Rattle.rtsp_client.specs.declared.watch_request.WatchEnd.TheVariants.{Done, Fault}
-use Rattle.rtsp_client.specs.declared.watch_request.Watched.{Watched}
-use Rattle.rtsp_client.specs.declared.watch_request.Wish.{Wish}
 use Rattle.connection_laws.specs.ClientRequests.{HasWatchedWhole, EndsWhole}
-use Rattle.connection_laws.specs.LinkDelivery.{IsCarried, heard_bytes, sent_bytes, IsDelivered}
-use Rattle.connection_laws.specs.Courses.{Course}
-use Rattle.connection_laws.specs.WholePlays.{HasPlayedWhole}
+use Rattle.connection_laws.specs.LinkDelivery.{IsDelivered}
 use Rattle.connection_laws.proofs.EndToEndMeter.{all_sent, fed, front_again, stream_of, all_sent_whole, stream_replies}
 use Rattle.connection_laws.proofs.EndToEndMeter.{third_of, played_stream}
 use Rattle.connection_laws.proofs.MeterInput.{all_of, AreTexts}
 use Rattle.connection_laws.proofs.MeterBounds.{AreFed, IsFed}
 use Rattle.connection_laws.proofs.WatchCourses.{kept_promise, told_course, last_bytes, told_bytes}
-use Rattle.std.proofs.lemmas.List.{append-nil}
-use Rattle.interleave.specs.Elements.{IsFirst}
-use Rattle.interleave.specs.Streams.{AreInputElements}
-use Rattle.interleave.specs.declared.elements.Step.TheVariants.{More}
 use Rattle.interleave.proofs.StreamElements.{TwoCuts, cuts_agree, tells_none}
-use Rattle.rtsp_client.specs.declared.watch_request.WatchEnd.{WatchEnd}
-use Rattle.rtsp_client.specs.Answers.{history_after, events_of_elements}
 use Rattle.rtsp_client.specs.Outcomes.{IsDecided}
 use Rattle.rtsp_client.proofs.UniqueEnd.{Quits, AtFraming, AtMoment, gives-not-on, gives-once, stops-quit}
-use Rattle.connection_laws.specs.WatchEnds.{RefusesNothing, AreGoodReplies}
+use Rattle.connection_laws.specs.WatchEnds.{RefusesNothing}
 use Rattle.connection_laws.proofs.AcceptedMoments.{HasAccepted, IsPlaceIn, all_cut, moment_accepted, next_in, no_fault}
 use Rattle.connection_laws.proofs.AcceptedMoments.{no_third, none_more, place_in, FilmStream, FilmClauses}
 use Rattle.connection_laws.proofs.ClientInput.{Heard, heard_all, heard_more, heard_none, rounds_heard}
 use Rattle.connection_laws.proofs.ElementStreams.{AreAlone}
-use Rattle.connection_laws.specs.Replies.{PlacedText, text_of}
 
 -- a client watched to the end what a course played, over a link that carried it slot by slot
 pub record IsWatched (wish : Wish) (stored : Stored) (watched : Watched) (out : List ℕ) : Type 0 where

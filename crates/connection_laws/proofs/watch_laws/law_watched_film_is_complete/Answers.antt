@@ -1,9 +1,5 @@
 use Rattle.std.proofs.Common.{subst, sym}
-use Rattle.conn.specs.EventSteps.{rounds_doings}
-use Rattle.rtsp_client.specs.Meters.{first_slot}
-use Rattle.connection_laws.specs.ClientRequests.{AreInRange}
-use Rattle.connection_laws.specs.LinkDelivery.{IsCarried}
-use Rattle.connection_laws.specs.Plays.{FilmPlay}
+use Rattle.connection_laws.proofs.Terms.{rounds_doings, first_slot, AreInRange, IsCarried, FilmPlay}
 use Rattle.connection_laws.proofs.AdmittedStarts.{asked_start}
 use Rattle.connection_laws.proofs.RequestedPlays.{asked_played, asked_play, asked_served}
 use Rattle.connection_laws.proofs.WatchedFilms.{watched_whole, watched_done, watched_unrefused}
