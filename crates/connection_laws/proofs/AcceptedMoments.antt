@@ -1,12 +1,11 @@
 -- A client that receives a server's stream goes on at each reply, frame and report of it, up to the
 -- reply to TEARDOWN, which ends the watching.
 use Rattle.std.proofs.Common.{◌≡◌, ℕ, ◌+◌, ◌<◌, ◌≤◌, ◌==◌, ◌&&◌, ◌⊎◌, ◌^◌, true, nat_lt, List, [], ◌∷◌, ◌++◌, length}
-use Rattle.std.proofs.Common.{take, drop, Some, is_some, unwrap_or, Err, refl, sym, ap, subst, ◌∙◌, arith, inl, inr}
+use Rattle.std.proofs.Common.{take, drop, Some, is_some, Err, refl, sym, ap, subst, ◌∙◌, arith, inl, inr}
 use Rattle.std.proofs.lemmas.Bool.{cond-true, cond-false, eq-eqb, lt-ltb, ne_eqb, or_left}
 use Rattle.std.proofs.lemmas.List.{append-nil, drop_at, take-append-drop, take-append-le, take_at}
-use Rattle.connection_laws.proofs.Terms.{IsFirst, AreInputElements, Film, picture_time, Identity, frames_among}
-use Rattle.connection_laws.proofs.Terms.{pieces_of, blocks_from, framed_bytes, length_ms, Wish, Gives, GoesOn}
-use Rattle.connection_laws.proofs.Terms.{events_of_elements, element_events, is_complete, units_until, frames_heard}
+use Rattle.connection_laws.proofs.Terms.{IsFirst, AreInputElements, Film, Identity, framed_bytes, length_ms, Wish}
+use Rattle.connection_laws.proofs.Terms.{Gives, GoesOn, events_of_elements, element_events, is_complete, frames_heard}
 use Rattle.connection_laws.proofs.Terms.{frames_of, watched_in, IsAnswer, play_range, play_start, setup_session}
 use Rattle.connection_laws.proofs.Terms.{History, ClientEvent, Frame, Reply, end_ms, replies, IsNext, AreAnswers}
 use Rattle.connection_laws.proofs.Terms.{AreGoodReplies}
@@ -21,7 +20,7 @@ use Rattle.rtsp_client.specs.Films.{is_good_frame}
 use Rattle.rtsp_client.specs.WholeFilms.{AwaitsFilm, frames_of_film}
 use Rattle.connection_laws.proofs.ClientInput.{no_sum}
 use Rattle.connection_laws.proofs.ElementStreams.{AreAlone, no_element, FramedFront}
-use Rattle.connection_laws.proofs.FilmReading.{film_run, units_all, more_reply, WholeStream, run_from}
+use Rattle.connection_laws.proofs.FilmReading.{units_all, more_reply, WholeStream, run_from}
 use Rattle.connection_laws.proofs.FirstFrames.{HasGoneOn}
 use Rattle.connection_laws.proofs.HistorySums.{AreOneBlocks, IsOneBlock, Sum, blocks_same, steps, steps_on, sum_of}
 use Rattle.connection_laws.proofs.MeterInput.{AreTexts, Stream, all_of, begun_sum, two_moments}
@@ -62,7 +61,7 @@ place_in {bytes} {rest} {elements} {all} front cut =
     let tail = drop count (framed_bytes all) in
     let whole : bytes ++ tail ≡ framed_bytes all = rw (front_is, take-append-drop count (framed_bytes all)) in
     let grown : AreInputElements (framed_bytes all) elements (rest ++ tail) =
-    subst (λ w. AreInputElements w elements (rest ++ tail)) whole (cut_grows bytes tail elements rest cut) in
+    rw whole at (cut_grows bytes tail elements rest cut) in
     let cuts : TwoCuts (framed_bytes all) elements all (rest ++ tail) [] =
     record { one = grown; other = all_cut all alone } in
     elim (cuts_agree cuts) [
@@ -72,7 +71,7 @@ place_in {bytes} {rest} {elements} {all} front cut =
           record {
             more = [];
             tail = tail;
-            all_is = sym (append-nil all) ∙ (ap (λ l. all ++ l) (sym none.0) ∙ sym is_all) ∙ sym (append-nil elements);
+            all_is = cc (append-nil all, none.0, is_all, append-nil elements);
             cut = sym none.1;
           }
     ]
@@ -94,8 +93,7 @@ no_fault {all} {elements} {rest} fault place first =
 
     no_fault_in : (more : List (List ℕ)) → AreInputElements (rest ++ place.tail) more [] → ⊥
     no_fault_in [] cut =
-        let some = starts_some (rest ++ place.tail) fault later in
-        omega (arith, some, ap (λ (l : List ℕ). length l) cut)
+        omega (arith, starts_some (rest ++ place.tail) fault later, ap (λ (l : List ℕ). length l) cut)
     no_fault_in (element ∷ more) cut = tells_none (rest ++ place.tail) (Err fault) later cut.0 cut.1.0
 
 -- the element that is next, of which this is the only moment
@@ -200,12 +198,7 @@ pub record HasAccepted (elements : List (List ℕ)) (h : History) : Type 0 where
 stream_frames : (s : WholeStream)
     → frames_of (events_of_elements s.x.blocks) ≡ frames_of_film s.film s.identity
 stream_frames s =
-    let run = film_run film identity in
-    let starts = film.slice_starts.items in
-    ap (λ bs. frames_of (events_of_elements bs)) blocks
-    ∙ (units_told (run_from s) starts film.units.items
-    ∙ ap (λ us. frames_among (pieces_of starts us) (blocks_from run 0 0 (pieces_of starts us)))
-    (sym (units_all film)))
+    let starts = film.slice_starts.items in cc (blocks, units_told (run_from s) starts film.units.items, units_all film)
   where
     open s use {film, identity, blocks}
 
@@ -223,12 +216,11 @@ in_film : {h : History} (s : FilmStream) (qs : List (List ℕ)) → AreOneBlocks
 in_film {h} s qs are sum =
     let same = blocks_same qs (begun_sum s.stream.x) are in
     let two : replies h ≡ 2 = ap (λ (s : Sum). s.replies) sum ∙ same.replies in
-    let end : end_ms h ≡ length_ms s.stream.film =
-    ap (λ (s : Sum). s.end_ms) sum ∙ same.end_ms ∙ ap (λ r. unwrap_or r 0) s.readable.range in
+    let end : end_ms h ≡ length_ms s.stream.film = cc (sum, same.end_ms, s.readable.range) in
     record {
       awaits = record {
         playing = lt-ltb 1 (replies h) (omega (arith, two));
-        end_is = ap (λ e. units_until e (picture_time s.stream.film.rate)) end ∙ film_counted s.stream.film;
+        end_is = cc (end, film_counted s.stream.film);
       };
       two = two;
     }
@@ -245,9 +237,8 @@ pub no_third : {h : History} (x : Stream) (y : List ℕ) (ys : List (List ℕ))
 no_third {h} x y ys accepted reply =
     let after = steps (begun_sum x) (events_of_elements x.blocks) in
     let sum : sum_of h ≡ steps after (events_of_elements (y ∷ ys)) =
-    accepted.sum ∙ (two_moments x (x.blocks ++ y ∷ ys)
-    ∙ (ap (steps (begun_sum x)) (moments_parts x.blocks (y ∷ ys))
-    ∙ steps_on (begun_sum x) (events_of_elements x.blocks) (events_of_elements (y ∷ ys)))) in
+    rw (accepted.sum, two_moments x (x.blocks ++ y ∷ ys), moments_parts x.blocks (y ∷ ys))
+    (rw (steps_on (begun_sum x) (events_of_elements x.blocks) (events_of_elements (y ∷ ys)))) in
     let same : after.replies ≡ 2 = (blocks_same x.blocks (begun_sum x) x.blocks_are).replies in
     omega (arith, two_replies h accepted.gone, ap (λ (s : Sum). s.replies) sum, more_reply y ys after reply, same)
 
@@ -262,8 +253,7 @@ stands_in [] ls qs e es is = Past qs refl is
 stands_in (b ∷ bs) ls [] e es is = let first : b ≡ e = cc in Within bs (ap (λ t. t ∷ bs) first)
 stands_in (b ∷ bs) ls (q ∷ qs) e es is =
     let first : b ≡ q = cc in
-    let rest : bs ++ ls ≡ qs ++ e ∷ es = cc in
-    elim (stands_in bs ls qs e es rest) [
+    elim (stands_in bs ls qs e es (cc)) [
       | Within more inside ↦ Within more (ap (λ t. t ∷ bs) first ∙ ap (λ l. q ∷ l) inside)
       | Past more past after ↦ Past more (ap (λ t. t ∷ qs) (sym first) ∙ ap (λ l. b ∷ l) past) after
     ]
@@ -320,8 +310,8 @@ module _ (w : FilmWatch) where
       (accepted.sum ∙ two_moments s.stream.x s.stream.x.blocks) in
       let frames : frames_of_film s.stream.film s.stream.identity ≡ frames_heard h =
       sym (stream_frames s.stream) ∙ sym (accepted.frames ∙ two_frames s.stream.x s.stream.x.blocks) in
-      let texts : AreTexts (last ∷ rest) = subst AreTexts later s.stream.x.later_are in
-      let answers : AreAnswers (last ∷ rest) = subst AreAnswers later s.readable.later_are in
+      let texts : AreTexts (last ∷ rest) = rw later at s.stream.x.later_are in
+      let answers : AreAnswers (last ∷ rest) = rw later at s.readable.later_are in
       reply_moment last next.moment_is texts.0.moment
       (inr (s.clauses.done s.stream.film s.stream.identity wish h last s.small inside.awaits frames inside.two
       answers.0))

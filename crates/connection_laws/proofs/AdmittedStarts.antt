@@ -1,8 +1,8 @@
 -- In which slots a connection asks for plays, and in which slots its plays begin.
 use Rattle.std.specs.Prelude.{⊤, All}
 use Rattle.std.specs.List.{fold}
-use Rattle.std.proofs.Common.{◌≡◌, ℕ, zero, suc, ◌+◌, ◌^◌, ◌≤◌, ◌++◌, List, ◌∷◌, max, min, take, arith, refl, sym, ap}
-use Rattle.std.proofs.Common.{subst, map, []}
+use Rattle.std.proofs.Common.{◌≡◌, ℕ, zero, suc, ◌+◌, ◌^◌, ◌≤◌, ◌++◌, List, ◌∷◌, max, min, take, arith, refl, ap, map}
+use Rattle.std.proofs.Common.{[]}
 use Rattle.std.proofs.lemmas.List.Elements.{All-append, All-contains, All-cons, All-get_or, All-head, All-nil, All-tail}
 use Rattle.std.proofs.lemmas.List.Elements.{All-weaker}
 use Rattle.std.proofs.lemmas.List.{map-append}
@@ -80,7 +80,7 @@ RangeOfCalls old turns new = InEntries AsksInRange (map outcome_of turns)
 range_kept : IsKeptByDoings RangeOfCalls
 range_kept = record {
   none = λ s. tt;
-  joins = λ a b c xs ys one two. subst (InEntries AsksInRange) (sym (map-append outcome_of xs ys))
+  joins = λ a b c xs ys one two. rw (map-append outcome_of xs ys)
       (each_append (InEntry AsksInRange) (map outcome_of xs) (map outcome_of ys) one two);
   request = λ old new message outcome heard. (ask_range (request_answer heard), tt);
   reply = λ s. tt;
@@ -97,7 +97,7 @@ pub asked_range : {films : List Stored} {settings : Settings} {words : List ℕ}
     → HasDone films settings words doings report → All AsksInRange (entries_in (doings_outcomes doings))
 asked_range {doings = doings} done =
     all_entries AsksInRange (doings_outcomes doings)
-    (subst (InEntries AsksInRange) (turns_told done) (doings_kept done range_kept))
+    (rw (turns_told done) at (doings_kept done range_kept))
 
 -- ---- the latest slot in which a play was asked for
 abbrev later : ℕ → Entry → ℕ
@@ -115,23 +115,20 @@ later_take base (suc n) (x ∷ xs) = later_take (later base x) n xs
 later_each : (base : ℕ) (xs : List Entry) → All (λ (e : Entry). asked_in e.command ≤ fold later base xs) xs
 later_each base [] = All-nil (λ (e : Entry). asked_in e.command ≤ base)
 later_each base (x ∷ xs) =
-    let most = fold later (later base x) xs in
-    let from = later_from (later base x) xs in
-    All-cons (λ (e : Entry). asked_in e.command ≤ most) x xs (omega (arith, from)) (later_each (later base x) xs)
+    All-cons (λ (e : Entry). asked_in e.command ≤ (fold later (later base x) xs)) x xs
+    (omega (arith, later_from (later base x) xs)) (later_each (later base x) xs)
 
 later_most : (most base : ℕ) (xs : List Entry) → base ≤ most → All (λ (e : Entry). asked_in e.command ≤ most) xs
     → fold later base xs ≤ most
 later_most most base [] few all = few
 later_most most base (x ∷ xs) few all =
     let P : Entry → Type 0 = λ (e : Entry). asked_in e.command ≤ most in
-    let first : asked_in x.command ≤ most = All-head P x xs all in
-    later_most most (later base x) xs (omega (arith, few, first)) (All-tail P x xs all)
+    later_most most (later base x) xs (omega (arith, few, All-head P x xs all)) (All-tail P x xs all)
 
 made_range : (e : Entry) → IsMadeByConnection e → asked_in e.command ≤ 2 ^ 62
 made_range e made =
-    let all = asked_range made.done in
     rw (← made.entry_is) (All-contains AsksInRange
-    (entries_in (doings_outcomes made.doings)) made.placed all made.among)
+    (entries_in (doings_outcomes made.doings)) made.placed (asked_range made.done) made.among)
 
 -- in a journal that connections made, no play was asked for in a slot after 2^62
 pub latest_range : (journal : List Entry) → AreMadeByConnections journal → latest_asked journal ≤ 2 ^ 62
@@ -157,15 +154,14 @@ stands_next : {terms : Terms} {journal : List Entry} (from : ℕ) (placed : Plac
 stands_next {terms} {journal} from placed legal stands = λ start same.
     let before = take placed.place journal in
     let state = state_after before in
-    let E : Entry → Type 0 = λ e. IsAnswer terms.steps state e.command e.answer in
-    let answered = subst E (stands.entry no_entry) (legal.each placed.place no_entry stands.within) in
-    let admitted = subst (λ (a : Answer). IsAnswer terms.steps state placed.entry.command a) same answered in
+    let answered = rw (stands.entry no_entry) at (legal.each placed.place no_entry stands.within) in
+    let admitted = rw same at answered in
     let is = answer_start terms.steps state placed.entry.command start admitted in
     let now : state.now ≡ latest_asked before =
     (tally terms.steps before (legal-take terms.steps journal placed.place legal)).1 in
     let few : latest_asked before ≤ latest_asked journal = later_take 0 placed.place journal in
     let P : Entry → Type 0 = λ e. asked_in e.command ≤ latest_asked journal in
-    let own : asked_in placed.entry.command ≤ latest_asked journal = subst P (stands.entry no_entry)
+    let own : asked_in placed.entry.command ≤ latest_asked journal = rw (stands.entry no_entry) at
     (All-get_or P journal placed.place no_entry stands.within (later_each 0 journal)) in
     (omega (arith, is), omega (arith, is, now, few, own))
 
@@ -241,7 +237,7 @@ course_starts visit terms journal course is =
     let first = begin_of course in
     let these : InEntries P (rounds_outcomes course.rounds) = rw is.course_is.rounds_are mine in
     plays_start journal (askings_of first course.rounds course.last course.follows)
-    (subst (InEntries P) (sym (course_outcomes first course.last course.rounds course.follows)) these)
+    (rw (course_outcomes first course.last course.rounds course.follows) these)
 
 pub course_range : (visit : Visit) (terms : Terms) (journal : List Entry) (course : Course)
     → IsCourseIn visit terms journal course → latest_asked journal ≤ 2 ^ 62 → All StartsInRange (course_plays course)
@@ -256,4 +252,4 @@ pub asked_start : {wish : Wish} {stored : Stored} {course : Course} (asked : IsA
     → AreMadeByConnections journal → StartsInRange asked.play
 asked_start {wish} {stored} {course} asked visit terms journal is made =
     let all = course_range visit terms journal course is (latest_range journal made) in
-    All-head StartsInRange asked.play asked.others (subst (All StartsInRange) asked.plays all)
+    All-head StartsInRange asked.play asked.others (rw asked.plays at all)

@@ -67,11 +67,7 @@ frames_made : {run : FramedRun} {unit : PictureUnit} (is : Maker run unit) (f o 
     → blocks_from run f o (map is.make packets) ≡ frame_blocks run unit f packets
 frames_made is f o [] = refl
 frames_made {run} {unit} is f o (p ∷ packets) =
-    let make = is.make in
-    ap (λ b. b ∷ blocks_from run (f + count_of (make p)) (o + octets_of (make p)) (map make packets)) (is.bytes p f o)
-    ∙ (ap (λ n. frame_block run unit p f ∷ blocks_from run (f + n) (o + octets_of (make p))
-    (map make packets)) (is.count p)
-    ∙ ap (λ bs. frame_block run unit p f ∷ bs) (frames_made is (f + 1) (o + octets_of (make p)) packets))
+    let make = is.make in cc (is.bytes p f o, is.count p, frames_made is (f + 1) (o + octets_of (make p)) packets)
 
 plain : (f : ℕ) → f + 0 ≡ f
 plain f = omega arith
@@ -88,11 +84,7 @@ with_report : {run : FramedRun} {unit : PictureUnit} {f o : ℕ} (starts : Bool)
     ≡ report_if starts run unit f o ++ frame_blocks run unit f packets
 with_report {f = f} {o = o} false part packets is = frames_made is f o packets
 with_report {run} {unit} {f} {o} true part packets is =
-    let make = is.make in
-    ap (λ b. b ∷ blocks_from run (f + count_of report) (o + octets_of report) (map make packets)) bytes
-    ∙ (ap (λ n. report_block run unit f o ∷ blocks_from run n (o + octets_of report) (map make packets))
-    (ap (λ n. f + n) count ∙ plain f)
-    ∙ ap (λ bs. report_block run unit f o ∷ bs) (frames_made is f (o + octets_of report) packets))
+    cc (bytes, count, plain f, frames_made is f (o + octets_of report) packets)
   where
     open part use {report, bytes, count}
 
@@ -169,7 +161,7 @@ frame_moment run f unit p media = ap (λ c. block_events c (frame_block run unit
 
 pub report_moment : (run : FramedRun) (f o : ℕ) (unit : PictureUnit) → run.identity.control ≡ 1
     → element_events (report_block run unit f o) ≡ Report (report_block run unit f o) ∷ []
-report_moment run f o unit control = ap (λ c. block_events c (report_block run unit f o)) control
+report_moment run f o unit control = cc control
 
 pub frames_one : (run : FramedRun) (f : ℕ) (unit : PictureUnit) (packets : List Packet) → run.identity.channel ≡ 0
     → AreOneBlocks (frame_blocks run unit f packets)

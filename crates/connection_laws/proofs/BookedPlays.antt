@@ -3,13 +3,13 @@ use Rattle.std.proofs.Common.{◌≡◌, ℕ, ◌++◌, List, ◌∷◌, map, re
 use Rattle.std.proofs.Common.{arith, inl, inr, []}
 use Rattle.std.proofs.lemmas.List.{map-append}
 use Rattle.connection_laws.proofs.Terms.{total_bytes, play_admitted, PlacedEntry, Admitted, Halted, Awaited, Play}
-use Rattle.connection_laws.proofs.Terms.{SessionState, AwaitedAnswer, Round, entries_in, round_outcomes}
-use Rattle.connection_laws.proofs.Terms.{rounds_outcomes, takings_outcomes, Outcome, Unasked, Stage, ElementStep}
-use Rattle.connection_laws.proofs.Terms.{Passed, Answered, TakesAll, entry_in, Entered, IsCourseBetween, asked_by}
-use Rattle.connection_laws.proofs.Terms.{askings_of, round_askings, takings_askings, Course, course_plays}
-use Rattle.connection_laws.proofs.Terms.{IsCourseSplit, StationRequest, Asks, plays_admitted, plays_begun, booked_by}
-use Rattle.connection_laws.proofs.Terms.{kept_among, kept_in, kept_with, play_by, plays_of, FilmPlay, kept_by, IsPlan}
-use Rattle.connection_laws.proofs.Terms.{Answer, Command, Prepared, after_slot}
+use Rattle.connection_laws.proofs.Terms.{SessionState, AwaitedAnswer, Round, entries_in, rounds_outcomes}
+use Rattle.connection_laws.proofs.Terms.{takings_outcomes, Outcome, Unasked, Stage, ElementStep, Passed, Answered}
+use Rattle.connection_laws.proofs.Terms.{TakesAll, entry_in, Entered, IsCourseBetween, asked_by, askings_of}
+use Rattle.connection_laws.proofs.Terms.{round_askings, takings_askings, Course, course_plays, IsCourseSplit}
+use Rattle.connection_laws.proofs.Terms.{StationRequest, Asks, plays_admitted, plays_begun, booked_by, kept_among}
+use Rattle.connection_laws.proofs.Terms.{kept_in, kept_with, play_by, plays_of, FilmPlay, kept_by, IsPlan, Answer}
+use Rattle.connection_laws.proofs.Terms.{Command, Prepared, after_slot}
 use Rattle.slot_calendar.specs.Plays.{truncated_play}
 use Rattle.connection_laws.specs.Plays.{booked_plays, booking_of}
 use Rattle.connection_laws.proofs.RequestEffects.{Ends, Starts, Stays, TurnsAs, told_by, Begins, begun_is}
@@ -75,8 +75,7 @@ turn_told old new asked outcome (Starts begins) = λ askings made keeps.
     let told : told_by outcome made
     ≡ truncated_play begins.admitted.start p.plan (kept_among made (total_bytes p.plan)) ∷ [] =
     rw (begins.outcome_is, begins.admitted.command, begins.admitted.answer) in
-    ap (map booking_of) (begun_is begins askings)
-    ∙ ap (λ k. truncated_play begins.admitted.start p.plan k ∷ []) (keeps (total_bytes p.plan)) ∙ sym told
+    cc (begun_is begins askings, keeps (total_bytes p.plan), told)
 turn_told old new asked outcome (Ends halts) = λ askings made keeps.
     ap (map booking_of) (halts.none askings)
     ∙ sym (ap (λ o. told_by o made) halts.outcome_is
@@ -110,8 +109,7 @@ comes_none {old} (SlotCame {slot = slot} finish) askings =
 finish_untold : {s new : SessionState} {asks : AwaitedAnswer} {halt : Outcome} → FinishesAs s asks halt new
     → (made : List PlacedEntry) → told_by halt made ≡ []
 finish_untold NothingLeft made = refl
-finish_untold (DoneHalted {placed = p} entry) made =
-    ap (λ c. booked_by (play_admitted c p.entry.answer) made) entry.command
+finish_untold (DoneHalted {placed = p} entry) made = cc entry.command
 
 comes_told : {old opened : Stage} {round : Round} → ComesAs old round opened
     → IsToldBy (asked_by old.session round.event) round.halt
@@ -139,20 +137,20 @@ pub course_outcomes : (old new : Stage) (rounds : List Round) (follows : IsCours
     → outcomes_in (askings_of old rounds new follows) ≡ rounds_outcomes rounds
 course_outcomes old new [] follows = refl
 course_outcomes old new (round ∷ rounds) follows =
-    let runs = follows.1.0 in
-    outcomes_append (round_askings old round follows.0 runs) (askings_of follows.0 rounds new follows.1.1)
-    ∙ ap (λ os. (round.halt ∷ os) ++ outcomes_in (askings_of follows.0 rounds new follows.1.1))
-    (takes_outcomes runs.opened follows.0 round.takings runs.takes)
-    ∙ ap (λ os. round_outcomes round ++ os) (course_outcomes follows.0 new rounds follows.1.1)
+    let runs = follows.1.0 in cc (
+      outcomes_append (round_askings old round follows.0 runs) (askings_of follows.0 rounds new follows.1.1),
+      takes_outcomes runs.opened follows.0 round.takings runs.takes,
+      course_outcomes follows.0 new rounds follows.1.1,
+    )
 
 -- the plays of a course are those that its entries record
 pub plays_booked : (course : Course)
     → map booking_of (course_plays course) ≡ booked_plays (entries_in (rounds_outcomes course.rounds))
 plays_booked course =
-    let first : Stage = begin_of course in
-    plays_told (askings_of first course.rounds course.last course.follows)
-    (all_kept told_kept course)
-    ∙ ap (λ os. booked_plays (entries_in os)) (course_outcomes first course.last course.rounds course.follows)
+    let first : Stage = begin_of course in cc (
+      plays_told (askings_of first course.rounds course.last course.follows) (all_kept told_kept course),
+      course_outcomes first course.last course.rounds course.follows,
+    )
 
 -- ---- askings in two parts
 
@@ -163,9 +161,8 @@ pub askings_parts : (old new : Stage) (first rest : List Round) (follows : IsCou
 askings_parts old new [] rest follows = refl
 askings_parts old new (round ∷ first) rest follows =
     let made = round_askings old round follows.0 follows.1.0 in
-    let parts = parts_of follows.0 new first rest follows.1.1 in
-    ap (λ l. made ++ l) (askings_parts follows.0 new first rest follows.1.1)
-    ∙ sym (append_assoc made (askings_of follows.0 first parts.0 parts.1.0) (askings_of parts.0 rest new parts.1.1))
+    let parts = parts_of follows.0 new first rest follows.1.1 in rw (askings_parts follows.0 new first rest follows.1.1)
+    (rw (← (append_assoc made (askings_of follows.0 first parts.0 parts.1.0) (askings_of parts.0 rest new parts.1.1))))
 
 -- ---- what is kept, and which plays begin
 

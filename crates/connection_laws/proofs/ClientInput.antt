@@ -51,14 +51,12 @@ heard_more {bytes} {old} {rest} more elements heard cut good = record {
   elements = heard.elements ++ elements;
   cut = let cuts : CutsInTurn bytes more heard.elements elements old.rest rest =
       record { first = heard.cut; next = cut } in cuts_join cuts;
-  sum = sum_after old.history (events_of_elements elements)
-      ∙ (ap (λ s. steps s (events_of_elements elements)) heard.sum
-      ∙ (sym (steps_on no_sum (events_of_elements heard.elements) (events_of_elements elements))
-      ∙ ap (steps no_sum) (sym (moments_parts heard.elements elements))));
-  frames = frames_later old.history (events_of_elements elements)
-      ∙ (ap (λ l. l ++ frames_of (events_of_elements elements)) heard.frames
-      ∙ sym (ap frames_of (moments_parts heard.elements elements)
-      ∙ frames_parts (events_of_elements heard.elements) (events_of_elements elements)));
+  sum = rw (sum_after old.history (events_of_elements elements), heard.sum)
+      (rw (← (steps_on no_sum (events_of_elements heard.elements) (events_of_elements elements)))
+      (rw (← (moments_parts heard.elements elements))));
+  frames = rw (frames_later old.history (events_of_elements elements), heard.frames)
+      (rw (← (frames_parts (events_of_elements heard.elements) (events_of_elements elements)))
+      (rw (← (moments_parts heard.elements elements))));
   gone = gone_on old.history (events_of_elements elements) heard.gone good;
 }
 
@@ -73,11 +71,9 @@ heard_event {bytes} {old} {new} (HeardBytes more) moments heard brings good hist
     let is : stage (history_after old.history (events_of_elements brings.0)) new.rest ≡ new =
     same_stage new (history_after old.history (events_of_elements brings.0)) new.rest
     (history ∙ ap (history_after old.history) brings.1.1) refl in
-    subst (Heard (bytes ++ more)) is (heard_more more brings.0 heard brings.1.0 (subst G brings.1.1 good))
+    rw is at (heard_more more brings.0 heard brings.1.0 (subst G brings.1.1 good))
 heard_event {bytes} {old} {new} (HeardSlot slot) moments heard brings good history =
     let cut = cut_bytes old.rest in
-    let G : List ClientEvent → Type 0 = λ ms. GoOn old.history ms in
-    let good2 : GoOn old.history (Slot slot cut ∷ []) = subst G brings.0 good in
     let is : stage (Slot slot cut ∷ old.history) old.rest ≡ new =
     same_stage new (Slot slot cut ∷ old.history) old.rest
     (history ∙ ap (history_after old.history) brings.0) brings.1 in
@@ -89,8 +85,7 @@ heard_event {bytes} {old} {new} (HeardSlot slot) moments heard brings good histo
       frames = heard.frames;
       gone = (tt, heard.gone);
     } in
-    let B : List ℕ → Type 0 = λ b. Heard b new in
-    subst B (sym (append-nil bytes)) (subst (Heard bytes) is mid)
+    rw (append-nil bytes) (subst (Heard bytes) is mid)
 heard_event _ moments heard brings good history = absurd brings
 
 pub heard_round : (bytes : List ℕ) (old new : WatchStage) (round : Round) → Heard bytes old → Runs old round new
@@ -101,7 +96,7 @@ heard_round bytes old new round heard runs = heard_event round.event round.momen
 pub heard_all : (bytes : List ℕ) (old new : WatchStage) (rounds : List Round) → Heard bytes old
     → RunsAll old rounds new → Heard (bytes ++ rounds_heard rounds) new
 heard_all bytes old new [] heard all =
-    let P : List ℕ → Type 0 = λ b. Heard b new in subst P (sym (append-nil bytes)) (subst (Heard bytes) (sym all) heard)
+    rw (append-nil bytes) (subst (Heard bytes) (sym all) heard)
 heard_all bytes old new (round ∷ rounds) heard all =
     rw (← (append_assoc bytes (bytes_in round.event) (rounds_heard rounds)))
     (heard_all (bytes ++ bytes_in round.event) all.0 new rounds
@@ -145,7 +140,7 @@ pub record IsDrained (wish : Wish) (watched : Watched) (bytes out : List ℕ) : 
   pub history_is : at.history ≡ history_after [] moments
 
 complete_then : (n : ℕ) (complete : Bool) → n ≡ 2 → (nat_lt n 2 || complete) ≡ true → complete ≡ true
-complete_then n complete two awaited = let P : ℕ → Type 0 = λ k. (nat_lt k 2 || complete) ≡ true in subst P two awaited
+complete_then n complete two awaited = rw two at awaited
 
 -- the done stage, with its moments
 pub at_done : {wish : Wish} {watched : Watched} {bytes out : List ℕ} {at : WatchStage} {moment : ClientEvent}

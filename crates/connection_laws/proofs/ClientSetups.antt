@@ -1,8 +1,8 @@
 -- What the requests of a client that wishes for a film settle: its channels, its buffer, its delay and its film, and
 -- the entire run.
-use Rattle.std.proofs.Common.{◌≡◌, ◌≢◌, ℕ, ◌+◌, ◌-◌, ◌<◌, ◌^◌, ◌==◌, not, true, false, List, [], ◌∷◌, ◌++◌, Option}
-use Rattle.std.proofs.Common.{Some, length, take, drop, get_or, codes, decimal, string_bytes, nat_lt, slice_range, refl}
-use Rattle.std.proofs.Common.{sym, ap, subst, ◌∙◌, arith, inl, inr, append_assoc, lt-ltb}
+use Rattle.std.proofs.Common.{◌≡◌, ◌≢◌, ℕ, ◌+◌, ◌-◌, ◌<◌, ◌^◌, ◌==◌, not, true, false, List, [], ◌∷◌, ◌++◌, Some}
+use Rattle.std.proofs.Common.{length, drop, get_or, codes, decimal, string_bytes, nat_lt, slice_range, refl, sym, ap}
+use Rattle.std.proofs.Common.{subst, ◌∙◌, arith, inl, inr, append_assoc, lt-ltb}
 use Rattle.std.specs.Char.{is_ascii_digit}
 use Rattle.std.specs.List.{list_all}
 use Rattle.std.proofs.lemmas.Bool.{and_from, cases_lt}
@@ -27,15 +27,14 @@ use Rattle.rtsp_fields.proofs.PartPlaces.{end_once}
 use Rattle.rtsp_fields.proofs.TransportTexts.{transport_read}
 use Rattle.rtsp_text.specs.Replies.{value_named}
 use Rattle.vod_base.specs.Limits.{WritesNumber}
-use Rattle.film_streams.specs.Setups.{AreChannelsOf, AsksForSetup, IsChosen}
+use Rattle.film_streams.specs.Setups.{AsksForSetup}
 use Rattle.session_laws.proofs.SetupLemmas.{IsSetupRequest}
 
 -- ---- the film that a URL names
 
 literal_byte : (k : ℕ) → k < 10 → get_or (codes "127.0.0.1:") k 0 ≢ 47
 literal_byte k inside = λ slash.
-    let other : not (get_or (codes "127.0.0.1:") k 0 == 47) ≡ false = rw slash refl in
-    let wrong : true ≡ false = list_all_at (λ byte. not (byte == 47)) (codes "127.0.0.1:") k 0 inside other in
+    let wrong : true ≡ false = list_all_at (λ byte. not (byte == 47)) (codes "127.0.0.1:") k 0 inside (rw slash refl) in
     cc
 
 abbrev authority_of : ℕ → List ℕ
@@ -84,11 +83,11 @@ authority_end port rest small =
 
 url_parts : (wish : Wish) (tail : List ℕ)
     → film_url wish ++ tail ≡ codes "rtsp://" ++ (authority_of wish.port ++ (47 ∷ (string_bytes wish.name ++ tail)))
-url_parts wish tail =
-    append_assoc (codes "rtsp://127.0.0.1:") (decimal wish.port ++ (codes "/" ++ string_bytes wish.name)) tail
-    ∙ ap (λ l. codes "rtsp://127.0.0.1:" ++ l)
-    (append_assoc (decimal wish.port) (codes "/" ++ string_bytes wish.name) tail) ∙ ap (λ l. codes "rtsp://" ++ l)
-    (sym (append_assoc (codes "127.0.0.1:") (decimal wish.port) (47 ∷ (string_bytes wish.name ++ tail))))
+url_parts wish tail = cc (
+  append_assoc (codes "rtsp://127.0.0.1:") (decimal wish.port ++ (codes "/" ++ string_bytes wish.name)) tail,
+  append_assoc (decimal wish.port) (codes "/" ++ string_bytes wish.name) tail,
+  append_assoc (codes "127.0.0.1:") (decimal wish.port) (47 ∷ (string_bytes wish.name ++ tail)),
+)
 
 -- what a course begins with, and what it is asked for
 pub record Beginning : Type 0 where
@@ -107,8 +106,7 @@ url_name {authority} {name} b tail is_tail url_read =
     let rest = string_bytes wish.name ++ tail in
     let front = codes "rtsp://" ++ authority_of wish.port in
     let url = codes "rtsp://" ++ (authority_of wish.port ++ (47 ∷ rest)) in
-    let R : List ℕ → Type 0 = λ u. IsRead u authority (Some name) in
-    let its = subst R (url_parts wish tail) url_read in
+    let its = rw (url_parts wish tail) at url_read in
     let n = 7 + length (authority_of wish.port) in
     let at : its.path ≡ n = end_once its.is_url.end (authority_end wish.port rest small) in
     let size : length url ≡ n + length (47 ∷ rest) =
@@ -117,14 +115,12 @@ url_name {authority} {name} b tail is_tail url_read =
       length-append (codes "rtsp://") (authority_of wish.port ++ (47 ∷ rest)),
       length-append (authority_of wish.port) (47 ∷ rest),
     ) in
-    let after : drop n url ≡ 47 ∷ rest =
-    ap (λ l. drop n l) (sym (append_assoc (codes "rtsp://") (authority_of wish.port) (47 ∷ rest)))
-    ∙ drop_at front (47 ∷ rest) n (omega (arith, length-append (codes "rtsp://") (authority_of wish.port))) in
+    let after : drop n url ≡ 47 ∷ rest = rw (← (append_assoc (codes "rtsp://") (authority_of wish.port) (47 ∷ rest)))
+    (rw (drop_at front (47 ∷ rest) n (omega (arith, length-append (codes "rtsp://") (authority_of wish.port))))) in
     let path : slice_range url n (length url) ≡ 47 ∷ rest =
-    ap (λ l. take (length url - n) l) after ∙ take_all (length url - n) (47 ∷ rest) (omega (arith, size)) in
+    cc (after, take_all (length url - n) (47 ∷ rest) (omega (arith, size))) in
     let N : ℕ → Type 0 = λ k. NamesFilm (slice_range url k (length url)) name in
-    let M : List ℕ → Type 0 = λ p. NamesFilm p name in
-    name_once (47 ∷ rest) name (string_bytes wish.name) (subst M path (subst N at its.name_is))
+    name_once (47 ∷ rest) name (string_bytes wish.name) (rw path at (subst N at its.name_is))
     (film_path (string_bytes wish.name) tail wished.name is_tail)
   where
     open b use {wish, wished, port}
@@ -149,7 +145,7 @@ two_channels channels is =
     let read : P (decimal 0) (decimal 1) = transport_read 0 1 (omega arith) (omega arith)
     (λ same. omega (arith, same)) in
     transport_once (codes "RTP/AVP/TCP;unicast;interleaved=0-1") channels C is
-    (subst (P (codes "0")) one_is (subst (λ a. P a (decimal 1)) zero_is read))
+    (rw one_is at (subst (λ a. P a (decimal 1)) zero_is read))
 
 -- a number in its range that is written is read
 chosen_is : {least most number : ℕ} (written : ℕ) → WritesNumber least most (decimal written) number
@@ -166,18 +162,15 @@ pub settled_by : {films : List Stored} {settings : Settings} {setup : Setup} {au
 unfolding value_named
 settled_by {films} {settings} {setup} b asks names =
     let values = (setup-asked wish wished port).values in
-    let C : Option (List ℕ) → Type 0 = λ v. AreChannelsOf v (record { media = setup.media; control = setup.control }) in
-    let B : Option (List ℕ) → Type 0 = λ v. IsChosen v settings.buffer 1 (2 ^ 42) setup.buffer in
-    let D : Option (List ℕ) → Type 0 = λ v. IsChosen v settings.startup 0 10000 setup.delay in
     let channels = two_channels (record { media = setup.media; control = setup.control })
-    (subst C (values (codes "Transport")) asks.channels) in
+    (rw (values (codes "Transport")) at asks.channels) in
     record {
       media = ap (λ (c : Channels). c.media) channels;
       control = ap (λ (c : Channels). c.control) channels;
       buffer = chosen_is wish.buffer
-          (subst B (values (codes "x-Buffer")) asks.buffer) (omega (arith, wished.most_buffer));
+          (rw (values (codes "x-Buffer")) at asks.buffer) (omega (arith, wished.most_buffer));
       delay = chosen_is wish.startup
-          (subst D (values (codes "x-Startup")) asks.delay) (omega (arith, wished.startup));
+          (rw (values (codes "x-Startup")) at asks.delay) (omega (arith, wished.startup));
       film = λ film at.
           let same : names.film.stored ≡ film = same_Some names.film.stored film (sym names.film.at ∙ at) in
           ap (λ (s : Stored). string_bytes s.name) (sym same)

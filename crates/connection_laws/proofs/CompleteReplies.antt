@@ -5,8 +5,8 @@ use Rattle.std.proofs.Common.{sym, ap, subst, ◌∙◌, arith, inl, inr}
 use Rattle.std.proofs.lemmas.List.{length-append}
 use Rattle.connection_laws.proofs.Terms.{Stored, Admitted, PlacedEntry, teardown_parts, film_url, play_text, setup_text}
 use Rattle.connection_laws.proofs.Terms.{teardown_text, IsRequest, request_head, Ask, setup_in, session_text}
-use Rattle.connection_laws.proofs.Terms.{after_admission, AreFilms, SessionState, HasValidIds, IsMessage, Entered}
-use Rattle.connection_laws.proofs.Terms.{Outcome, Stage, AreAnswers, IsAnswer}
+use Rattle.connection_laws.proofs.Terms.{after_admission, SessionState, HasValidIds, IsMessage, Entered, Outcome, Stage}
+use Rattle.connection_laws.proofs.Terms.{AreAnswers, IsAnswer}
 use Rattle.rtsp_replies.proofs.ReplyMessages.{short-decimal, name_printed}
 use Rattle.rtsp_client.proofs.RequestGrammar.{teardown-asked}
 use Rattle.rtsp_client.proofs.RequestTexts.{play_rest, setup_rest, teardown_rest}
@@ -32,7 +32,7 @@ use Rattle.connection_laws.proofs.Lists.{Each}
 
 pub named_as : {old new : SessionState} → names_in new ≡ names_in old → HasValidIds old → HasValidIds new
 named_as {old} {new} same named = record {
-  films = subst AreFilms (sym (ap (λ (n : List Stored × List ℕ). n.0) same)) named.films;
+  films = rw (ap (λ (n : List Stored × List ℕ). n.0) same) named.films;
   number = named.number;
   id_is = ap (λ (n : List Stored × List ℕ). n.1) same ∙ named.id_is;
 }
@@ -78,10 +78,9 @@ pub admitted_from : {start : ℕ} {placed : PlacedEntry} {asking new : SessionSt
     → placed.entry.answer ≡ Admitted start → AnswersAs asking ask (Entered placed) new
     → IsAdmittedFrom asking ask placed.place start new
 admitted_from {start} {placed} {asking} is (PlayAdmitted {start = began} entry answered) =
-    let both : Admitted began ≡ Admitted start = sym entry.answer_is ∙ is in
     let same : began ≡ start = cc in
     rw same (record {
-      later = subst (λ n. asking.heard < n) same answered.0;
+      later = rw same at answered.0;
       new_is = refl;
       whole = λ whole small. whole.admission placed.place start small;
     })
@@ -92,8 +91,8 @@ admitted_from is (LookMade looked) = cc
 -- ---- TEARDOWN
 
 own_halt : (stage : SessionStage) (ask : Ask) → HaltsPlay stage ask → IsOwnReply ask
-own_halt PlayingStage ask is = subst IsOwnReply (sym is.1) tt
-own_halt _ ask is = subst IsOwnReply (sym is) tt
+own_halt PlayingStage ask is = rw is.1 tt
+own_halt _ ask is = rw is tt
 
 teardown_read : (b : Beginning) {old new : Stage} (request : AnsweredRequest old new)
     → request.message ≡ teardown_text b.wish b.session
@@ -113,9 +112,9 @@ teardown_own : (b : Beginning) {old new : Stage} (request : AnsweredRequest old 
 teardown_own b {old} request is =
     let heard = request.replied.heard in
     elim (teardown_read b request is) [
-      | inl reply ↦ subst IsOwnReply (sym reply) tt
+      | inl reply ↦ rw reply tt
       | inr teardown ↦ elim (teardown_ends old.session heard.asking request.message heard.ask teardown heard.hears) [
-        | inl declined ↦ subst IsOwnReply (sym declined.command) tt
+        | inl declined ↦ rw declined.command tt
         | inr torn ↦ own_halt (stage_of old.session.state) heard.ask torn.halts
       ]
     ]
@@ -204,7 +203,7 @@ torn_reply {b} {old} request is valid named =
     let still = named_still (replied_setup replied.answered) (named_still same (named_still told.same named)) in
     record {
       named = answered_named request valid;
-      own = subst (λ (s : Stage). IsNamed b s.session) (sym replied.new_is) still;
+      own = rw replied.new_is still;
       whole = whole;
       answer = read_teardown old.session.id whole (id_printed valid) text;
     }

@@ -29,7 +29,7 @@ follows_all old new (round ∷ rounds) runs = (runs.0, (runs.1.0, follows_all ru
 module _ {mid new : Stage} {round : Round} where
   pub follows_more : (old : Stage) (rounds : List Round) → IsCourseBetween old rounds mid → Runs mid round new
       → IsCourseBetween old (rounds ++ round ∷ []) new
-  follows_more old [] follows runs = (new, (subst (λ s. Runs s round new) follows runs, refl))
+  follows_more old [] follows runs = (new, (rw follows at runs, refl))
   follows_more old (first ∷ rounds) follows runs =
       (follows.0, (follows.1.0, follows_more follows.0 rounds follows.1.1 runs))
 
@@ -56,8 +56,7 @@ slot_cases : {later : Bool} (old : SessionState) (slot : ℕ) (small sending : B
     → (later ≡ false → slot ≤ old.heard)
     → (if later && small then (if sending then after_play (sent_slot old slot) else record old { heard = slot }) else
     old).heard ≡ max old.heard (if small then slot else 0)
-slot_cases {later = true} old slot true true after before = let h : old.heard < slot =
-    after refl in sent_heard old slot ∙ omega (arith, h)
+slot_cases {later = true} old slot true true after before = sent_heard old slot ∙ omega (arith, after refl)
 slot_cases {later = true} old slot true false after before = let h : old.heard < slot = after refl in omega (arith, h)
 slot_cases {later = true} old slot false sending after before = omega arith
 slot_cases {later = false} old slot true sending after before = let h : slot ≤ old.heard = before refl in
@@ -195,7 +194,7 @@ module _ {R : SessionState → Piece → SessionState → Type 0} (kept : IsKept
   pub takings_kept : (old new : Stage) (takings : List ElementStep) (takes : TakesAll old takings new)
       → R old.session (takings_piece old takings new takes) new.session
   takings_kept old new [] takes =
-      subst (λ (s : Stage). R old.session no_piece s.session) (sym takes) (kept.none old.session)
+      rw takes (kept.none old.session)
   takings_kept old new (Passed n ∷ takings) takes =
       let rest = takings_piece takes.0 takings new takes.1.1 in
       subst (λ s. R s (record rest { slots = takings_slots s.heard takings }) new.session)
@@ -223,7 +222,7 @@ module _ {R : SessionState → Piece → SessionState → Type 0} (kept : IsKept
   pub course_kept : (old new : Stage) (rounds : List Round) (follows : IsCourseBetween old rounds new)
       → R old.session (course_piece old rounds new follows) new.session
   course_kept old new [] follows =
-      subst (λ (s : Stage). R old.session no_piece s.session) (sym follows) (kept.none old.session)
+      rw follows (kept.none old.session)
   course_kept old new (round ∷ rounds) follows =
       let first = round_piece old round follows.0 follows.1.0 in
       let rest = course_piece follows.0 rounds new follows.1.1 in
@@ -258,5 +257,5 @@ module _ {Q : SessionState → Piece → Type 0} (back : GoesBack Q) where
 
   pub course_back : (course : Course) → Q course.last.session no_piece → Q (begin_of course).session (piece_of course)
   course_back course is =
-      subst (Q (begin_of course).session) (joined_none (piece_of course))
+      rw (joined_none (piece_of course)) at
       (course_kept back_kept (begin_of course) course.last course.rounds course.follows no_piece is)

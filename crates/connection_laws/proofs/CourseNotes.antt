@@ -134,8 +134,7 @@ pub plays_noted : {films : List Stored} {settings : Settings} {words : List ℕ}
 plays_noted {doings = doings} done =
     let all = doings_kept done carries_kept in
     let closed = closed_none (closes_as (open_of done.last.session) doings.halt done.closes) refl in
-    done.report_is.plays ∙ sym (append-nil done.closed.plays)
-    ∙ ap (λ ns. done.closed.plays ++ ns) (sym closed) ∙ sym (all.on []) ∙ until_none (all_calls done)
+    cc (done.report_is.plays, append-nil done.closed.plays, closed, all.on [], until_none (all_calls done))
 
 -- the play that an answer's entry records
 abbrev placed_by : Outcome → List PlacedEntry → List PlacedPlay
@@ -177,12 +176,12 @@ placed_more _ made = refl
 turns_noted : (turns : List StationCall) → Each IsNotedCall turns
     → map noted_play (notes_of turns) ≡ placed_plays (made_by_turns turns)
 turns_noted [] are = refl
-turns_noted (turn ∷ turns) are =
-    map-append noted_play (notes_of_calls turn.asking turn.outcome turns) (notes_of turns)
-    ∙ ap (λ ps. ps ++ map noted_play (notes_of turns))
-    (are.0 (record { turns = turns; made = made_by_turns turns; keeps = keeps_as turns }))
-    ∙ ap (λ ps. placed_by turn.outcome (made_by_turns turns) ++ ps) (turns_noted turns are.1)
-    ∙ placed_more turn.outcome (made_by_turns turns)
+turns_noted (turn ∷ turns) are = cc (
+  map-append noted_play (notes_of_calls turn.asking turn.outcome turns) (notes_of turns),
+  are.0 (record { turns = turns; made = made_by_turns turns; keeps = keeps_as turns }),
+  turns_noted turns are.1,
+  placed_more turn.outcome (made_by_turns turns),
+)
 
 -- ---- one turn
 

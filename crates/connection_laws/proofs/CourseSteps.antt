@@ -1,18 +1,18 @@
 -- What a connection sends in its course: the film's bytes that are due of its plays, and each reply at its place.
 use Rattle.std.proofs.lemmas.List.{append-nil}
-use Rattle.std.proofs.Common.{◌≡◌, ℕ, ◌≤◌, ◌++◌, ◌&&◌, ◌==◌, if◌then◌else◌, Bool, true, false, nat_lt, List, ◌∷◌, refl}
-use Rattle.std.proofs.Common.{ap, sym, ◌∙◌, subst, arith, Option, Some, None, ◌+◌, inl, inr, ◌⊎◌, []}
+use Rattle.std.proofs.Common.{◌≡◌, ℕ, ◌≤◌, ◌&&◌, ◌==◌, if◌then◌else◌, Bool, true, false, nat_lt, List, ◌∷◌, refl, ap}
+use Rattle.std.proofs.Common.{sym, ◌∙◌, subst, arith, Option, Some, None, ◌+◌, inl, inr, ◌⊎◌, []}
 use Rattle.std.proofs.lemmas.Bool.{eqb-true, true≢false, and_parts, cases_Bool}
 use Rattle.connection_laws.proofs.Terms.{PacerState, IsPacerState, total_bytes, PlacedEntry, Awaited, Nothing, Halt}
 use Rattle.connection_laws.proofs.Terms.{Done, Setup, State, Playing, Stopping, can_reply, after_play, halted_in}
-use Rattle.connection_laws.proofs.Terms.{is_between, is_sending, sent_due, sent_reply, sent_slot, stepped_in, next_of}
+use Rattle.connection_laws.proofs.Terms.{is_between, is_sending, sent_due, sent_reply, sent_slot, stepped_in}
 use Rattle.connection_laws.proofs.Terms.{after_slot, SessionState, AwaitedAnswer, NoAnswer, HaltAnswer, awaited_answer}
 use Rattle.connection_laws.proofs.Terms.{awaited_answer_of, rounds_film, rounds_parts, round_parts, takings_parts}
 use Rattle.connection_laws.proofs.Terms.{Round, Runs, Outcome, Unasked, Entered, SentPart, Stage, after_reply}
 use Rattle.connection_laws.proofs.Terms.{film_bytes, Text, reply_parts, slot_parts, IsCourseBetween, askings_of}
-use Rattle.connection_laws.proofs.Terms.{first_stage, greatest_slot, Course, course_plays, course_film, StationRequest}
-use Rattle.connection_laws.proofs.Terms.{Asks, plays_begun, kept_in, kept_with, plays_of, AreOver, FilmPlay}
-use Rattle.connection_laws.proofs.Terms.{is_answered, after_halt, AreSentAt, slots_from, course_texts, Stored, Settings}
+use Rattle.connection_laws.proofs.Terms.{first_stage, greatest_slot, Course, course_plays, course_film, Asks}
+use Rattle.connection_laws.proofs.Terms.{plays_begun, kept_in, kept_with, plays_of, AreOver, FilmPlay, after_halt}
+use Rattle.connection_laws.proofs.Terms.{AreSentAt, slots_from, course_texts, Stored, Settings}
 use Rattle.conn.proofs.PlayProgress.{reply_state, reply_heard, state_after_slot}
 use Rattle.pacer.specs.PacerStates.{is_done}
 use Rattle.session.specs.declared.states.Play.{Play as Played}
@@ -28,8 +28,7 @@ use Rattle.connection_laws.proofs.ReplyBoundaries.{Replying, replying, turn_goes
 use Rattle.connection_laws.proofs.WaitingReplies.{GoesTo, IsHeld, Point, Stand, goes_same, goes_then, point, over_at}
 use Rattle.connection_laws.proofs.WaitingReplies.{due_here}
 use Rattle.connection_laws.proofs.JoinedFilms.{IsSound, IsOnTime, play_with, film_is, film_now, film_over_all}
-use Rattle.connection_laws.proofs.TextPlaces.{AreLater, AreSent, StandAt, due_first, from_lower, later_lower}
-use Rattle.connection_laws.proofs.TextPlaces.{with_pending}
+use Rattle.connection_laws.proofs.TextPlaces.{AreSent, StandAt, due_first, from_lower, later_lower, with_pending}
 use Rattle.conn.proofs.ReplyPlacement.{film_bytes-append, takings_film}
 use Rattle.conn.proofs.StationAnswers.{FinishesAs, NothingLeft, DoneHalted, ComesAs, BytesCame, SlotCame, IsHaltEntry}
 
@@ -89,9 +88,9 @@ reply_as s true waits reply = record {
 }
 reply_as s false waits reply = record {
   after = record {
-    sound = subst (λ w. IsSound (sends_in s.state) w s.heard) (sym waits) reply.sound;
+    sound = rw waits reply.sound;
     pending = reply.after;
-    held = subst (λ w. IsHeld reply.after (sends_in s.state) w s.heard) (sym waits) reply.held;
+    held = rw waits reply.held;
   };
   goes_on = reply.goes_on;
 }
@@ -99,8 +98,7 @@ reply_as s false waits reply = record {
 reply_move : (s : SessionState) → s.waits ≡ true → IsSound (sends_in s.state) true s.heard → ReplyMove s (can_reply s)
 reply_move s waits sound =
     let can : is_between s.state ≡ can_reply s = sym (ap (λ w. w && is_between s.state) waits) in
-    subst (ReplyMove s) can
-    (reply_as s (is_between s.state) waits (replying s.state (is_between s.state) s.heard s.text sound refl))
+    rw can at (reply_as s (is_between s.state) waits (replying s.state (is_between s.state) s.heard s.text sound refl))
 
 pub reply_waits : (goes : Bool) (s : SessionState) → (if goes then sent_reply s else s).waits
     ≡ (if goes then false else s.waits)
@@ -219,11 +217,11 @@ done_move : {s : SessionState} {placed : PlacedEntry} (paced : IsPaced s) (done 
     → Move paced (after_halt s placed.place) (asked_piece (Asks s.awaited (Entered placed)))
 done_move {s} {placed} paced done entry =
     let p : PacerState = play.pacer in
-    let on = (subst (λ st. IsSound (sends_in st) s.waits s.heard) is paced.sound).0 in
+    let on = (rw is at paced.sound).0 in
     let held : IsHeld paced.pending (Going p) s.waits s.heard =
-    subst (λ st. IsHeld paced.pending (sends_in st) s.waits s.heard) is paced.held in
+    rw is at paced.held in
     let none : paced.pending ≡ None = done_unheld s.heard paced.pending s.waits on.pacing ended held in
-    let waits : s.waits ≡ false = subst (λ o. IsHeld o (Going p) s.waits s.heard) none held in
+    let waits : s.waits ≡ false = rw none at held in
     let sends : sends_in (halted_in s.state s.awaited) ≡ Idle = halted_idle done in
     let goes : GoesTo (point (Going p) s.heard None) (point Idle s.heard None)
     (asked_piece (Asks s.awaited (Entered placed))) = record {
@@ -233,7 +231,7 @@ done_move {s} {placed} paced done entry =
           let begun : plays_begun s.awaited (Entered placed) askings ≡ [] = rw asks in
           record {
             from = fits.from;
-            later = subst (λ ps. AreLater s.heard (ps ++ plays_of askings)) (sym begun) fits.later;
+            later = rw begun fits.later;
             stand = rw (kept, begun) (over_at (record { p = p; keep = keep; on = on; sent = sym sent }) ends fits);
           };
     } in
@@ -241,7 +239,7 @@ done_move {s} {placed} paced done entry =
       after = record {
         sound = rw sends tt;
         pending = None;
-        held = ap (λ (a : Awaited). if is_answered (next_of a) then true else s.waits) asks ∙ waits;
+        held = cc (asks, waits);
       };
       goes_on = rw (none, ap sends_in is, sends) goes;
     }
@@ -310,7 +308,7 @@ slot_move {old} {slot = slot} stands (SlotIdle none later) =
     let paced = stands.paced in
     let idle = idle_none old.state paced.pending old.waits old.heard none paced.held in
     let waits : old.waits ≡ false =
-    subst (λ o. IsHeld o (sends_in old.state) old.waits old.heard) idle.0 paced.held in
+    rw idle.0 at paced.held in
     record {
       after = record { sound = rw idle.1 tt; pending = None; held = waits };
       goes_on = rw (idle.0, idle.1) (idle_later old.heard slot (omega (arith, later)));
@@ -418,18 +416,16 @@ end_at p waits heard None on held = record {
 end_at p waits heard (Some slot) on held =
     let play : FilmPlay = play_with p p.keep in
     let here = due_here p heard on in
-    let first = due_first play [] slot tt in
     let last = due_first play [] heard tt in
     record {
       holds = omega (arith, on.pacing.sent, on.pacing.due);
       texts = (
         λ place boundary due. elim boundary [
           | inl own ↦
-              let past = held.1.none (p.before + place) own.1 (omega (arith, first, due)) in
+              let past = held.1.none (p.before + place) own.1 (omega (arith, due_first play [] slot tt, due)) in
               omega (arith, past, last, here)
           | inr over ↦
-              let past = held.1.none (p.before + p.keep) on.pacing.ends (omega arith) in
-              omega (arith, past, last, here, over.0)
+              omega (arith, held.1.none (p.before + p.keep) on.pacing.ends (omega arith), last, here, over.0)
         ],
         tt,
       );
@@ -475,7 +471,8 @@ course_sent course =
     let last : new.heard ≡ greatest_slot course.rounds =
     course_heard first course.last course.rounds course.follows ∙ omega arith in
     let made = append-nil (askings_of first course.rounds course.last course.follows) in
-    let sent = rw (made, append-nil (slots_from 0 course.rounds), append-nil (rounds_parts course.rounds)) at fits.stand in
+    let slots = append-nil (slots_from 0 course.rounds) in
+    let sent = rw (made, slots, append-nil (rounds_parts course.rounds)) at fits.stand in
     subst (λ t. AreSent (course_plays course)
     (record { end = t; slots = slots_from 0 course.rounds; parts = rounds_parts course.rounds })) last sent
 

@@ -1,16 +1,14 @@
 -- One induction over what a connection does, from its first event to its end, and the slots that it missed.
-use Rattle.std.proofs.Common.{◌≡◌, ℕ, ◌++◌, if◌then◌else◌, Bool, true, false, List, ◌∷◌, Option, map, length, ap, refl}
-use Rattle.std.proofs.Common.{subst, sym, ◌∙◌, ◌+◌, ◌&&◌, arith, []}
+use Rattle.std.proofs.Common.{◌≡◌, ℕ, ◌++◌, if◌then◌else◌, Bool, true, false, List, ◌∷◌, map, length, ap, refl, ◌∙◌}
+use Rattle.std.proofs.Common.{◌+◌, ◌&&◌, arith, []}
 use Rattle.std.proofs.lemmas.List.{map-append}
-use Rattle.std.proofs.lemmas.Bool.{and_from}
 use Rattle.connection_laws.proofs.Terms.{Stored, Settings, Nothing, can_reply, sent_reply, after_slot, after_play}
 use Rattle.connection_laws.proofs.Terms.{is_between, is_sending, is_taken, sent_due, sent_slot, stepped_in}
-use Rattle.connection_laws.proofs.Terms.{SessionState, OpenBooking, open_of, awaited_answer, Ending, AtElement, InReply}
-use Rattle.connection_laws.proofs.Terms.{Round, Runs, ending_outcomes, round_outcomes, rounds_outcomes}
-use Rattle.connection_laws.proofs.Terms.{takings_outcomes, HasFailedInSlot, Outcome, Unasked, Stage, ElementStep}
-use Rattle.connection_laws.proofs.Terms.{Passed, Answered, TakesAll, after_reply, HasHeard, IsClosed, ConnEnd}
-use Rattle.connection_laws.proofs.Terms.{ConnReport, Activity, HasDone, doings_outcomes, first_stage, StationCall}
-use Rattle.connection_laws.proofs.Terms.{outcome_of, station_call}
+use Rattle.connection_laws.proofs.Terms.{SessionState, open_of, awaited_answer, Ending, AtElement, InReply, Round, Runs}
+use Rattle.connection_laws.proofs.Terms.{ending_outcomes, round_outcomes, rounds_outcomes, takings_outcomes}
+use Rattle.connection_laws.proofs.Terms.{HasFailedInSlot, Outcome, Unasked, Stage, ElementStep, Passed, Answered}
+use Rattle.connection_laws.proofs.Terms.{TakesAll, after_reply, HasHeard, ConnEnd, ConnReport, Activity, HasDone}
+use Rattle.connection_laws.proofs.Terms.{doings_outcomes, first_stage, StationCall, outcome_of, station_call}
 use Rattle.session.specs.SlotSteps.{missed_between, start_in}
 use Rattle.conn.specs.EventSteps.{Overfull, InSlot, Ends, RunsAll}
 use Rattle.connection_laws.specs.Notes.{asking_at, ending_calls, round_calls, rounds_calls, taken_calls, station_calls}
@@ -21,7 +19,6 @@ use Rattle.connection_laws.proofs.CourseInduction.{follows_all}
 use Rattle.session.proofs.StepInvariantLemmas.{nothing_of}
 use Rattle.conn.proofs.ReplyContents.{CourseEnd}
 use Rattle.connection_laws.proofs.StationAnswers.{closing, closes_as}
-use Rattle.session_laws.specs.PlayLaws.{slots_missed}
 use Rattle.session_laws.proofs.SlotCountLemmas.{missed_is}
 use Rattle.connection_laws.proofs.KeptParts.{LastingPart, finish_keeps, reply_keeps, request_keeps, takes_keep}
 use Rattle.conn.proofs.StationAnswers.{FinishesAs, ComesAs, BytesCame, SlotCame, comes_as}
@@ -58,14 +55,13 @@ module _ {R : SessionState → List StationCall → SessionState → Type 0} (ke
       (kept.finish halt s new finish)
 
   still : (old new : Stage) → new ≡ old → R old.session [] new.session
-  still old new is = subst (λ (s : Stage). R old.session [] s.session) (sym is) (kept.none old.session)
+  still old new is = rw is (kept.none old.session)
 
   taken : (old new : Stage) (takings : List ElementStep) (takes : TakesAll old takings new)
       → R old.session (taken_calls old takings new takes) new.session
   taken old new [] takes = still old new takes
   taken old new (Passed n ∷ takings) takes =
-      let same : takes.0.session ≡ old.session = ap (λ (s : Stage). s.session) takes.1.0.2 in
-      rw (← same) (taken takes.0 new takings takes.1.1)
+      rw (← (ap (λ (s : Stage). s.session) takes.1.0.2)) (taken takes.0 new takings takes.1.1)
   taken old new (Answered message outcome parts ∷ takings) takes =
       let replied = takes.1.0 in
       let s : SessionState = replied.answered in
@@ -74,7 +70,7 @@ module _ {R : SessionState → List StationCall → SessionState → Type 0} (ke
       kept.joins old.session s (after_reply s) (turn ∷ []) [] (kept.request old.session s message outcome replied.heard)
       (sent_if (can_reply s) s) in
       kept.joins old.session takes.0.session new.session (turn ∷ []) (taken_calls takes.0 takings new takes.1.1)
-      (subst (λ (t : Stage). R old.session (turn ∷ []) t.session) (sym replied.new_is) one)
+      (rw replied.new_is one)
       (taken takes.0 new takings takes.1.1)
 
   round_kept : (old new : Stage) (round : Round) (runs : Runs old round new)
@@ -107,7 +103,7 @@ module _ {R : SessionState → List StationCall → SessionState → Type 0} (ke
       (kept.request e.mid.session s message outcome e.fails.heard) (kept.lost s) in
       kept.joins old.session e.mid.session ended.new.session (round_calls old round e.mid e.runs) (turn ∷ [])
       (round_kept old e.mid round e.runs)
-      (subst (λ (t : Stage). R e.mid.session (turn ∷ []) t.session) (sym e.fails.new_is) last)
+      (rw e.fails.new_is last)
   ending_kept old _ ended = still old ended.new ended.ends.1
 
 -- ---- between doings nothing is awaited
@@ -116,14 +112,14 @@ stands_all old new rounds runs = course_stands old new rounds (follows_all old n
 
 pub ending_rest : {old : Stage} (ending : Ending) (ended : CourseEnd old ending) → Stands old.session →
     ended.new.session.awaited ≡ Nothing
-ending_rest (Overfull bytes) ended stands = ap (λ (s : Stage). s.session.awaited) ended.ends.3 ∙ stands.rest
+ending_rest (Overfull bytes) ended stands = cc (ended.ends.3, stands.rest)
 ending_rest {old} (AtElement round) ended stands = (round_stands old ended.new round ended.ends.0 stands).rest
 ending_rest (InSlot slot front) ended stands = nothing_of ended.new.session.awaited ended.ends.1.rest
 ending_rest {old} (InReply round message outcome front) ended stands =
     let e = ended.ends.1 in
     ap (λ (s : Stage). s.session.awaited) e.fails.new_is
     ∙ (answered_after e.fails.heard (round_stands old e.mid round e.runs stands).rest).awaited
-ending_rest _ ended stands = ap (λ (s : Stage). s.session.awaited) ended.ends.1 ∙ stands.rest
+ending_rest _ ended stands = cc (ended.ends.1, stands.rest)
 
 -- ---- the answers of turns are those of the doings
 takes_outcomes : (old new : Stage) (takings : List ElementStep) (takes : TakesAll old takings new)
@@ -140,11 +136,11 @@ round_outcomes_are old new round runs = rw (takes_outcomes runs.opened new round
 rounds_outcomes_are : (old new : Stage) (rounds : List Round) (runs : RunsAll old rounds new)
     → map outcome_of (rounds_calls old rounds new runs) ≡ rounds_outcomes rounds
 rounds_outcomes_are old new [] runs = refl
-rounds_outcomes_are old new (round ∷ rounds) runs =
-    map-append outcome_of (round_calls old round runs.0 runs.1.0) (rounds_calls runs.0 rounds new runs.1.2)
-    ∙ ap (λ os. os ++ map outcome_of (rounds_calls runs.0 rounds new runs.1.2))
-    (round_outcomes_are old runs.0 round runs.1.0)
-    ∙ ap (λ os. round_outcomes round ++ os) (rounds_outcomes_are runs.0 new rounds runs.1.2)
+rounds_outcomes_are old new (round ∷ rounds) runs = cc (
+  map-append outcome_of (round_calls old round runs.0 runs.1.0) (rounds_calls runs.0 rounds new runs.1.2),
+  round_outcomes_are old runs.0 round runs.1.0,
+  rounds_outcomes_are runs.0 new rounds runs.1.2,
+)
 
 ending_outcomes_are : (old new : Stage) (count : ℕ) (ending : Ending) (end : ConnEnd)
     (ends : Ends old count ending end new)
@@ -190,13 +186,12 @@ module _ {films : List Stored} {settings : Settings} {words : List ℕ} {doings 
       (kept.close doings.halt last done.closed (closes_as (open_of last) doings.halt done.closes) last_rest)
 
   pub turns_told : map outcome_of all_calls ≡ doings_outcomes doings
-  turns_told =
-      map-append outcome_of (heard_calls ++ ended_calls) (station_call done.last.session doings.halt ∷ [])
-      ∙ ap (λ os. os ++ doings.halt ∷ []) (map-append outcome_of heard_calls ended_calls
-      ∙ ap (λ os. os ++ map outcome_of ended_calls)
-      (rounds_outcomes_are (first_stage films settings words) done.mid doings.rounds done.runs)
-      ∙ ap (λ os. rounds_outcomes doings.rounds ++ os)
-      (ending_outcomes_are done.mid done.last (length doings.rounds) doings.ending report.end done.ends))
+  turns_told = cc (
+    map-append outcome_of (heard_calls ++ ended_calls) (station_call done.last.session doings.halt ∷ []),
+    map-append outcome_of heard_calls ended_calls,
+    rounds_outcomes_are (first_stage films settings words) done.mid doings.rounds done.runs,
+    ending_outcomes_are done.mid done.last (length doings.rounds) doings.ending report.end done.ends,
+  )
 
 -- ---- slots
 slotted_if : (old : SessionState) (slot : ℕ) (taken sending : Bool)

@@ -15,13 +15,14 @@ used_snoc : (wish : Wish) (time slot unit : ℕ) (sizes : List ℕ) (x : ℕ)
     ≡ used_before wish time slot unit sizes + cond (nat_lt (use_slot wish time (unit + length sizes)) slot) x 0
 used_snoc wish time slot unit [] x =
     let here : unit ≡ unit + 0 = omega arith in
-    let same = ap (λ n. cond (nat_lt (use_slot wish time n) slot) x 0) here in
-    omega (arith, same)
+    omega (arith, ap (λ n. cond (nat_lt (use_slot wish time n) slot) x 0) here)
 used_snoc wish time slot unit (size ∷ sizes) x =
-    let rest = used_snoc wish time slot (unit + 1) sizes x in
     let here : unit + 1 + length sizes ≡ unit + suc (length sizes) = omega arith in
-    let same = ap (λ n. cond (nat_lt (use_slot wish time n) slot) x 0) here in
-    omega (arith, rest, same)
+    omega (
+      arith,
+      used_snoc wish time slot (unit + 1) sizes x,
+      ap (λ n. cond (nat_lt (use_slot wish time n) slot) x 0) here,
+    )
 
 -- a timing with the slots and the delay of a wish
 pub record WishedTiming (wish : Wish) (timing : Timing) : Type 0 where
@@ -37,26 +38,26 @@ module _ {wish : Wish} {timing : Timing} where
       let time = timing.picture_units in
       let f : ℕ → ℕ = λ k. cond (nat_lt (due_slot timing k) slot) (get_or sizes k 0) 0 in
       let next : suc n ≡ n + 1 = omega arith in
-      let more : take (suc n) sizes ≡ take n sizes ++ get_or sizes n 0 ∷ [] =
-      ap (λ m. take m sizes) next ∙ take_more sizes n 0 (omega (arith, few)) in
-      let rest = used_range slot sizes n timed (omega (arith, few)) in
-      let front = used_snoc wish time slot 0 (take n sizes) (get_or sizes n 0) in
       let place : 0 + length (take n sizes) ≡ n = omega (arith, length-take-le n sizes (omega (arith, few))) in
       let used : use_slot wish time (0 + length (take n sizes)) ≡ due_slot timing n =
       rw (place, timed.units, timed.delay) in
-      let last = ap (λ u. cond (nat_lt u slot) (get_or sizes n 0) 0) used in
-      let sums = sum_by-range_more f n in
-      let range = ap (λ m. sum_by f (range_with_len 0 m)) next in
-      omega (arith, ap (used_before wish time slot 0) more, front, rest, last, sums, range)
+      omega (
+        arith,
+        ap (used_before wish time slot 0) (ap (λ m. take m sizes) next ∙ take_more sizes n 0 (omega (arith, few))),
+        used_snoc wish time slot 0 (take n sizes) (get_or sizes n 0),
+        used_range slot sizes n timed (omega (arith, few)),
+        ap (λ u. cond (nat_lt u slot) (get_or sizes n 0) 0) used,
+        sum_by-range_more f n,
+        ap (λ m. sum_by f (range_with_len 0 m)) next,
+      )
 
   used_same : (slot : ℕ) (sizes : List ℕ) → WishedTiming wish timing → timing.played ≡ 0
       → used_before wish timing.picture_units slot 0 sizes ≡ wire_used sizes timing slot
   used_same slot sizes timed none =
-      let all = used_range slot sizes (length sizes) timed (omega arith) in
       omega (
         arith,
         ap (used_before wish timing.picture_units slot 0) (take_all (length sizes) sizes (omega arith)),
-        all,
+        used_range slot sizes (length sizes) timed (omega arith),
         none,
       )
 

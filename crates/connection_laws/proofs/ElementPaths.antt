@@ -1,8 +1,8 @@
 -- The elements of a connection's input that are processed, one after another: each byte CR or LF,
 -- each block, each request.
-use Rattle.std.proofs.Common.{◌≡◌, ◌⊎◌, ℕ, zero, suc, ◌<◌, ◌≤◌, ◌++◌, true, false, List, [], ◌∷◌, Ok, Err, length, take}
-use Rattle.std.proofs.Common.{drop, get_or, refl, ap, sym, ◌∙◌, subst, inl, inr, arith, ap₂}
-use Rattle.std.proofs.lemmas.Bool.{both_ways, true≢false}
+use Rattle.std.proofs.Common.{◌≡◌, ◌⊎◌, ℕ, zero, suc, ◌<◌, ◌≤◌, ◌++◌, true, false, List, [], ◌∷◌, Ok, Err, length, drop}
+use Rattle.std.proofs.Common.{get_or, refl, ap, sym, ◌∙◌, subst, inl, inr, arith, ap₂}
+use Rattle.std.proofs.lemmas.Bool.{both_ways}
 use Rattle.std.proofs.lemmas.List.{append-nil, append_assoc, take-append-le, drop-append-le, length-append}
 use Rattle.std.proofs.lemmas.List.{get_or_append_left}
 use Rattle.connection_laws.proofs.Terms.{is_line_end, IsFirst, StartsMessage, IsElementLength, LineEnd, WholeBlock}
@@ -122,7 +122,7 @@ pub record Way (old new : Stage) : Type 0 where
 
 pub join_goes : {b c : Stage} (a : Stage) (later : Way b c) (xs : List Element) → GoesAll a xs b
     → GoesAll a (xs ++ later.elements) c
-join_goes {c = c} a later [] goes = subst (λ s. GoesAll s later.elements c) goes later.goes
+join_goes {c = c} a later [] goes = rw goes at later.goes
 join_goes a later (x ∷ xs) goes = (goes.0, (goes.1.0, join_goes goes.0 later xs goes.1.1))
 
 abbrev pub way_then : {a b c : Stage} → Way a b → Way b c → Way a c
@@ -139,7 +139,7 @@ longer old more = stage old.session (old.input ++ more)
 
 shorter : (old : Stage) (session : SessionState) (more : List ℕ) (n : ℕ) → n ≤ length old.input
     → longer (stage session (drop n old.input)) more ≡ stage session (drop n (old.input ++ more))
-shorter old session more n inside = ap (λ input. stage session input) (sym (drop-append-le n old.input more inside))
+shorter old session more n inside = cc (drop-append-le n old.input more inside)
 
 next_grows : (old : Stage) (message more : List ℕ) → IsNext old message → IsNext (longer old more) message
 next_grows old message more next = record {
@@ -223,13 +223,7 @@ path_taken : (old new : Stage) (message : List ℕ) (outcome : Outcome) (parts :
     })
 path_taken old new message outcome parts replied =
     let turn : StationCall = record { heard = hearing replied; outcome = outcome; answered = replied.answered } in
-    let taken : IsTaken old turn new = record {
-      session_is = refl;
-      next = replied.next;
-      hears = replied.heard.hears;
-      answered = replied.heard.answered;
-      new_is = replied.new_is;
-    } in
+    let taken : IsTaken old turn new = assumption (replied, replied.heard) in
     record {
       way = record { elements = RequestElement turn ∷ []; goes = (new, (taken, refl)) };
       is = rw (
@@ -250,7 +244,7 @@ takings_exchange old takings new takes = record {
 
 pub path_of : (old new : Stage) (takings : List ElementStep) (takes : TakesAll old takings new)
     → Path old new (takings_exchange old takings new takes)
-path_of old new [] takes = subst (λ s. Path old s no_exchange) (sym takes) (path_none old)
+path_of old new [] takes = rw takes (path_none old)
 path_of old new (Passed n ∷ takings) takes =
     path_then (subst (λ s. Path old s no_exchange) (sym takes.1.0.2)
     (passed_over old.session old.input n takes.1.0.0 takes.1.0.1)) (path_of takes.0 new takings takes.1.1)
@@ -307,9 +301,7 @@ goes_films old new (RequestElement turn ∷ elements) goes =
 
 message_same : (old : Stage) (one other : List ℕ) → IsNext old one → IsNext old other → other ≡ one
 message_same old one other is also =
-    also.message_is
-    ∙ ap (λ n. take n old.input) (total_once old.input (length other) (length one) also.first.1 is.first.1)
-    ∙ sym is.message_is
+    cc (also.message_is, total_once old.input (length other) (length one) also.first.1 is.first.1, is.message_is)
 
 -- two requests were processed from one stage, and memory ran out for both or for neither
 record TakenTwice (old : Stage) (turn again : StationCall) : Type 0 where
@@ -329,15 +321,15 @@ turns_same {old} {turn} {again} given twice =
     let g = again.heard in
     let message : g.message ≡ h.message = message_same old h.message g.message taken.next also.next in
     let same = hears_same {one = h} {other = g} (record {
-      films = subst (λ (s : SessionState). AreFilms s.films) (sym taken.session_is) films;
+      films = rw taken.session_is films;
       session = also.session_is ∙ sym taken.session_is;
       message = message;
-      hears = subst (λ s. Hears s h.message h.ask h.asking) (sym taken.session_is) taken.hears;
-      also = subst (λ s. Hears s g.message g.ask g.asking) (sym also.session_is) also.hears;
+      hears = rw taken.session_is taken.hears;
+      also = rw also.session_is also.hears;
       alike = alike;
     }) in
     let answered : IsAskAnswered h.asking h.ask again.outcome again.answered =
-    rw (← same.0) (subst (λ s. IsAskAnswered s g.ask again.outcome again.answered) same.1 also.answered) in
+    rw (← same.0) (rw same.1 at also.answered) in
     let both = answers_same h.asking h.ask given (taken.answered, answered) in (
       also.new_is ∙ stage_is (ap after_reply both.0) (ap (λ (m : List ℕ). drop (length m) old.input) message)
           ∙ sym taken.new_is,
@@ -376,13 +368,13 @@ pub record SameEnds (last again : Stage) (sent resent : List ℕ) (one other : E
 
 passing_films : {old new : Stage} {n : ℕ} → IsPassing old n new → AreFilms old.session.films
     → AreFilms new.session.films
-passing_films passing films = subst AreFilms (sym (ap (λ (s : Stage). s.session.films) passing.new_is)) films
+passing_films passing films = rw (ap (λ (s : Stage). s.session.films) passing.new_is) films
 
 overs_same : {old one other : Stage} {n m : ℕ} → IsPassing old n one → IsPassing old m other → other ≡ one
 overs_same {old} {n = n} {m = m} is also =
     let size : m ≡ n =
     element_once old.input m n (over_element old.input m also.over) (over_element old.input n is.over) in
-    also.new_is ∙ ap (λ k. stage old.session (drop k old.input)) size ∙ sym is.new_is
+    cc (also.new_is, size, is.new_is)
 
 pub ends_same : {old : Stage} {xs ys : List Element} (one other : Exchange) → AreFilms old.session.films
     → (way : PathDone old xs) (also : PathDone old ys)

@@ -1,7 +1,7 @@
 -- A stream of complete elements, split at any place.
-use Rattle.std.proofs.Common.{◌≡◌, ℕ, suc, ◌+◌, ◌-◌, ◌<◌, nat_le, cond, List, [], ◌∷◌, ◌++◌, length, take, drop, refl}
-use Rattle.std.proofs.Common.{sym, ap, subst, ◌∙◌, arith, inl, inr}
-use Rattle.std.proofs.lemmas.Bool.{cases_lt, le-leb, lt-leb}
+use Rattle.std.proofs.Common.{◌≡◌, ℕ, ◌+◌, ◌-◌, ◌<◌, List, [], ◌∷◌, ◌++◌, length, take, drop, refl, sym, ◌∙◌, arith}
+use Rattle.std.proofs.Common.{inl, inr}
+use Rattle.std.proofs.lemmas.Bool.{cases_lt}
 use Rattle.std.proofs.lemmas.List.{append-nil, length-take-le, take-append-le, take-append-drop, take_all}
 use Rattle.std.proofs.Math.Seq.{drop-append-add, take-append-add, take-nil}
 use Rattle.connection_laws.proofs.Terms.{count_ended, framed_bytes, AreInputElements, IsElementLength, LineEnd}
@@ -30,15 +30,13 @@ stream_cons p t ps r alone stream =
     let zero_ : length p ≡ length p + 0 = omega arith in
     let front : p ≡ take (length p) (p ++ t) =
     sym (take-append-le (length p) p t (omega arith) ∙ take_all (length p) p (omega arith)) in
-    let after : t ≡ drop (length p) (p ++ t) = sym (ap (λ n. drop n (p ++ t)) zero_ ∙ drop-append-add p t 0) in
+    let after : t ≡ drop (length p) (p ++ t) = cc (drop-append-add p t 0, zero_) in
     ((length p, (element_stays p t (length p) alone.whole, front, rw (← after) stream.0)), stream.1)
 
 stream_short : (p t : List ℕ) (c : ℕ) → IsAlone p → c < length p → IsStream (take c (p ++ t)) [] (take c p)
 stream_short p t c alone less =
-    let same : take c (p ++ t) ≡ take c p = take-append-le c p t (omega (arith, less)) in
     let none : (n : ℕ) → IsElementLength (take c p) n → ⊥ = λ n is.
-    let stays : IsElementLength (take c p ++ drop c p) n = element_stays (take c p) (drop c p) n is in
-    let there : IsElementLength p n = rw (← (take-append-drop c p)) stays in
+    let there : IsElementLength p n = rw (← (take-append-drop c p)) (element_stays (take c p) (drop c p) n is) in
     omega (
       arith,
       element_once p n (length p) there alone.whole,
@@ -46,12 +44,12 @@ stream_short p t c alone less =
       length-take-le c p (omega (arith, less)),
       less,
     ) in
-    (same, none)
+    (take-append-le c p t (omega (arith, less)), none)
 
 -- a prefix of a stream is its complete elements at the beginning, and a prefix of the next one
 pub cut_at : (ps : List (List ℕ)) (c : ℕ) → AreAlone ps
     → IsStream (take c (framed_bytes ps)) (take (count_ended c ps) ps) (rest_at c ps)
-cut_at [] c alone = let P : List ℕ → Type 0 = λ xs. IsStream xs [] [] in subst P (sym (take-nil c)) (refl, no_element)
+cut_at [] c alone = rw (take-nil c) (refl, no_element)
 cut_at (p ∷ ps) c alone =
     elim (cases_lt c (length p)) [
       | inl less ↦
@@ -61,7 +59,7 @@ cut_at (p ∷ ps) c alone =
           let sum : c ≡ length p + d = omega (arith, more) in
           let one = at_more p ps c more in
           let bytes : take c (p ++ framed_bytes ps) ≡ p ++ take d (framed_bytes ps) =
-          ap (λ n. take n (p ++ framed_bytes ps)) sum ∙ take-append-add p (framed_bytes ps) d in
+          cc (sum, take-append-add p (framed_bytes ps) d) in
           rw (one.0, one.1, bytes)
           (stream_cons p (take d (framed_bytes ps)) (take (count_ended d ps) ps) (rest_at d ps) alone.0
           (cut_at ps d alone.1))
@@ -86,9 +84,8 @@ pub cut_front : {bytes rest : List ℕ} {n : ℕ} {ps : List (List ℕ)} (front 
 cut_front {bytes} {rest} {n} {ps} front cut are next =
     let all = take (count_ended c ps) ps in
     let stream : IsStream bytes all (rest_at c ps) = rw is (cut_at ps c alone) in
-    let longer : AreInputElements bytes (cut ++ take n rest ∷ []) (drop n rest) = cut_more bytes cut rest n are next in
     let cuts : TwoCuts bytes (cut ++ take n rest ∷ []) all (drop n rest) (rest_at c ps) =
-    record { one = longer; other = stream.0 } in
+    record { one = cut_more bytes cut rest n are next; other = stream.0 } in
     elim (cuts_agree cuts) [
       | inl more ↦ (more.0, more.1.0)
       | inr more ↦ sends_front (drop n rest) more.0 more.1.0 more.1.1 stream.1

@@ -1,6 +1,6 @@
 -- The promise from a server to its client's meter.
 use Rattle.std.proofs.Common.{◌≡◌, ℕ, suc, ◌+◌, ◌-◌, ◌<◌, ◌≤◌, min, List, ◌∷◌, ◌++◌, length, take, map, sum, refl, sym}
-use Rattle.std.proofs.Common.{ap, subst, ◌∙◌, arith, inl, inr, []}
+use Rattle.std.proofs.Common.{ap, ◌∙◌, arith, inl, inr, []}
 use Rattle.std.proofs.lemmas.Bool.{cases_lt}
 use Rattle.std.proofs.lemmas.List.{length-append, length-map, length-take, take_all, take-take}
 use Rattle.std.proofs.lemmas.List.Sums.{sum_by-take-le}
@@ -10,8 +10,8 @@ use Rattle.connection_laws.proofs.Terms.{rounds_film, rounds_parts, Comes, Round
 use Rattle.connection_laws.proofs.Terms.{Stage, film_bytes, Course, IsCourseBetween, askings_of, greatest_slot}
 use Rattle.connection_laws.proofs.Terms.{rounds_bytes, FilmPlay, due_of, film_of, film_written, plays_of, PlacedText}
 use Rattle.connection_laws.proofs.Terms.{placed_text, placed_texts, text_of, insert_texts, course_texts, Wish}
-use Rattle.connection_laws.proofs.Terms.{IsBetween, latest_slot, sent_bytes, AreAfter, HasPlayedWhole, IsWholePlay}
-use Rattle.connection_laws.proofs.Terms.{film_blocks, playback_of, whole_run}
+use Rattle.connection_laws.proofs.Terms.{IsBetween, sent_bytes, AreAfter, HasPlayedWhole, IsWholePlay, film_blocks}
+use Rattle.connection_laws.proofs.Terms.{playback_of, whole_run}
 use Rattle.conn.proofs.ReplyContents.{parts-more}
 use Rattle.film_frames.specs.Laws.{AreBlocks}
 use Rattle.film_frames.specs.FramedRuns.{pieces_in}
@@ -32,9 +32,9 @@ use Rattle.connection_laws.proofs.MeterBounds.{IsFed}
 use Rattle.connection_laws.proofs.BookedPlays.{askings_parts, course_late, late_play, one_so_far}
 use Rattle.connection_laws.proofs.ElementStreams.{AreAlone, IsAlone}
 use Rattle.connection_laws.proofs.UnitSizes.{blocks_one}
-use Rattle.connection_laws.proofs.SentStreams.{AreEvents, IsCounted, IsEvent, IsFromTo, IsFrontOf, all_woven, HasEvent}
-use Rattle.connection_laws.proofs.SentStreams.{counted_by, framed_append, parts_length, rounds_latest, rounds_sent_are}
-use Rattle.connection_laws.proofs.SentStreams.{texts_parts, texts_within, texts_length, whole_rounds}
+use Rattle.connection_laws.proofs.SentStreams.{AreEvents, IsEvent, IsFromTo, IsFrontOf, all_woven, HasEvent, counted_by}
+use Rattle.connection_laws.proofs.SentStreams.{framed_append, parts_length, rounds_latest, rounds_sent_are, texts_parts}
+use Rattle.connection_laws.proofs.SentStreams.{texts_within, texts_length, whole_rounds}
 use Rattle.connection_laws.proofs.Lists.{each_append, each_front, each_weaker}
 
 -- ---- the stream
@@ -206,11 +206,9 @@ module _ {wish : Wish} {stored : Stored} {course : Course} (played : HasPlayedWh
       let x = stream_of played in
       let g = greatest_slot rounds in
       let n = first_slots play.plan (j + 1) in
-      let total = length (framed_bytes x.blocks) in
       let film : rounds_film rounds ≡ take (due_of g play) (framed_bytes x.blocks) =
-      sent.film ∙ (one_written g play
-      ∙ ap (take (due_of g play)) (film_blocks_are wish stored played.identity play whole
-      ∙ ap framed_bytes (sym (stream_blocks played)))) in
+      rw (sent.film, one_written g play, film_blocks_are wish stored played.identity play whole)
+      (rw (← (stream_blocks played))) in
       let at : g + 1 - play.start ≡ j + 1 = omega (arith, slot) in
       let due : first_slots play.plan (g + 1 - play.start) ≡ n = ap (first_slots play.plan) at in
       let bytes = whole_bytes in
@@ -218,8 +216,6 @@ module _ {wish : Wish} {stored : Stored} {course : Course} (played : HasPlayedWh
       let size : length (rounds_film rounds) ≡ n =
       ap (λ (l : List ℕ). length l) film
       ∙ (length-take (due_of g play) (framed_bytes x.blocks) ∙ omega (arith, due, whole.keep, most, bytes)) in
-      let run = whole_run stored in
-      let playback = playback_of wish stored in
       let curves = planned_between sent.plan whole.sending refl in
       let came : 0 + n ≡ length (rounds_film rounds) = omega (arith, size) in
       record {
@@ -234,8 +230,7 @@ split_texts : {texts : List PlacedText} (course : Course) (first later : List Ro
     → placed_texts 0 (rounds_parts first) ++ placed_texts (0 + length (film_bytes (rounds_parts first)))
     (rounds_parts later) ≡ texts
 split_texts course first later split are =
-    sym (texts_parts 0 (rounds_parts first) (rounds_parts later))
-    ∙ (ap (placed_texts 0) (sym (ap rounds_parts split ∙ parts-more first later)) ∙ are)
+    cc (texts_parts 0 (rounds_parts first) (rounds_parts later), parts-more first later, split, are)
 
 module _ {wish : Wish} {stored : Stored} {course : Course} (played : HasPlayedWhole wish stored course) where
   fed_by : (first later : List Round) (j : ℕ) → course.rounds ≡ first ++ later
@@ -281,7 +276,7 @@ module _ {wish : Wish} {stored : Stored} {course : Course} (played : HasPlayedWh
       each_front HasEvent whole.first whole.later
       (rw (← whole.parts) (events_are begin course.last course.rounds course.follows)) in
       let slot : greatest_slot whole.first ≡ played.play.start + j =
-      sym (rounds_latest whole.first) ∙ (ap latest_slot (sym whole.front_is) ∙ written.slot_is) in
+      cc (rounds_latest whole.first, whole.front_is, written.slot_is) in
       let are : rounds_bytes whole.first ≡ bytes =
       sym (written.bytes_are ∙ (ap sent_bytes whole.front_is ∙ rounds_sent_are whole.first events)) in
       rw (← are) (fed_by whole.first whole.later j whole.parts slot)

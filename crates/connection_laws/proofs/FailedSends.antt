@@ -1,15 +1,14 @@
 -- What was sent where a send failed is a prefix of what a longer course sends.
 use Rattle.std.proofs.Common.{◌≡◌, ℕ, ◌+◌, ◌++◌, ◌&&◌, if◌then◌else◌, Bool, true, false, List, ◌∷◌, length, drop, arith}
-use Rattle.std.proofs.Common.{refl, sym, ap, subst, ◌∙◌, [], inl, inr}
+use Rattle.std.proofs.Common.{refl, sym, ap, ◌∙◌, [], inl, inr}
 use Rattle.std.proofs.lemmas.Bool.{and_from, cond-true}
 use Rattle.std.proofs.lemmas.List.{append_assoc, append-nil, length-append, take_at}
 use Rattle.std.proofs.Math.Seq.{take-append-add}
-use Rattle.connection_laws.proofs.Terms.{HeardSlot, Halted, PlacedEntry, Awaited, after_halt, can_reply, is_between}
-use Rattle.connection_laws.proofs.Terms.{is_sending, is_taken, step_bytes, stepped_in, SessionState, awaited_answer}
-use Rattle.connection_laws.proofs.Terms.{awaited_answer_of, HasFailedInSlot, IsPrefixOf, Round, Runs, round_bytes}
-use Rattle.connection_laws.proofs.Terms.{takings_bytes, Answered, Entered, Outcome, Stage, ElementStep, TakesAll, Text}
-use Rattle.connection_laws.proofs.Terms.{Unasked, after_reply, due_parts, parts_bytes, reply_parts, slot_parts, stage}
-use Rattle.connection_laws.proofs.Terms.{Course, rounds_bytes}
+use Rattle.connection_laws.proofs.Terms.{HeardSlot, Halted, PlacedEntry, after_halt, can_reply, is_between, is_sending}
+use Rattle.connection_laws.proofs.Terms.{is_taken, step_bytes, stepped_in, SessionState, awaited_answer}
+use Rattle.connection_laws.proofs.Terms.{HasFailedInSlot, IsPrefixOf, Round, Runs, round_bytes, takings_bytes, Answered}
+use Rattle.connection_laws.proofs.Terms.{Entered, Outcome, Stage, ElementStep, TakesAll, Text, Unasked, after_reply}
+use Rattle.connection_laws.proofs.Terms.{due_parts, parts_bytes, reply_parts, slot_parts, stage, Course, rounds_bytes}
 use Rattle.conn.proofs.CourseSteps.{takings_bytes-append}
 use Rattle.admission.specs.declared.entries.Command.TheVariants.{Halt as HaltCommand}
 use Rattle.session.specs.SlotSteps.{due_bytes}
@@ -69,8 +68,7 @@ record CanFinish (s : SessionState) : Type 0 where
 
 can_finish : {s : SessionState} → AsksDone s → CanFinish s
 can_finish {s} (inl rest) =
-    let F : Awaited → Type 0 = λ a. IsFinished (awaited_answer_of a) s Unasked s in
-    record { halt = Unasked; new = s; finished = subst F (sym rest) refl }
+    record { halt = Unasked; new = s; finished = rw rest refl }
 can_finish {s} (inr done) =
     let placed : PlacedEntry =
     record { place = 0; entry = record { maker = 0; command = HaltCommand 0 done.keep; answer = Halted } } in
@@ -132,9 +130,8 @@ takes_more {new} old mid (first ∷ takings) taking takes more =
 
 replied_bytes : (answered : SessionState) (message : List ℕ) (outcome : Outcome) → can_reply answered ≡ true
     → takings_bytes (Answered message outcome (reply_parts answered) ∷ []) ≡ answered.text
-replied_bytes answered message outcome can =
-    append-nil (parts_bytes (reply_parts answered))
-    ∙ ap parts_bytes (cond-true (can_reply answered) (Text answered.text ∷ []) [] can) ∙ append-nil answered.text
+replied_bytes answered message outcome can = rw (append-nil (parts_bytes (reply_parts answered)))
+    (rw (cond-true (can_reply answered) (Text answered.text ∷ []) [] can, append-nil answered.text))
 
 pub failed_reply : {round : Round} {message : List ℕ} {outcome : Outcome} {front : List ℕ} {new : Stage}
     (course : Course) (ends : EndsInReply course.last round message outcome front new) →
@@ -162,8 +159,7 @@ failed_reply {round} {message} {outcome} {front} course ends =
     } in
     let text = replied_bytes answered message outcome failed.can in
     let bytes : round_bytes longer ≡ round_bytes round ++ answered.text =
-    ap (λ bs. parts_bytes round.due ++ bs)
-    (takings_bytes-append round.takings (taking ∷ []) ∙ ap (λ bs. takings_bytes round.takings ++ bs) text)
-    ∙ sym (append_assoc (parts_bytes round.due) (takings_bytes round.takings) answered.text) in
+    rw (takings_bytes-append round.takings (taking ∷ []), text)
+    (rw (← (append_assoc (parts_bytes round.due) (takings_bytes round.takings) answered.text))) in
     cut_short course longer last (round_bytes round ++ front) runs
     (rw bytes (front_after (round_bytes round) front answered.text failed.front_is))

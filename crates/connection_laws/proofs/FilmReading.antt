@@ -6,11 +6,11 @@ use Rattle.std.proofs.lemmas.List.{take-append-drop, length-take-le, take_all}
 use Rattle.std.proofs.lemmas.Bool.{cases_lt, cond-false, eqb-true, ltb-true, ne_eqb, and_parts}
 use Rattle.std.proofs.lemmas.List.Sums.{sum_by-take-le}
 use Rattle.connection_laws.proofs.Terms.{count_ended, FramedRun, blocks_from, run_of, run_pieces, framed_bytes, Wish}
-use Rattle.connection_laws.proofs.Terms.{Watched, events_of_elements, element_events, cut_bytes, payloads_of}
-use Rattle.connection_laws.proofs.Terms.{ClientEvent, Frame, Reply, Report, History, end_ms, first_frame, frames}
-use Rattle.connection_laws.proofs.Terms.{payloads, bytes_received, sizes, Film, AreLaid, picture_time, Identity}
-use Rattle.connection_laws.proofs.Terms.{frames_among, pieces_of, wire_size, WatchStage, begins_film, is_complete}
-use Rattle.connection_laws.proofs.Terms.{time_in, units_until, IsFilmHeard}
+use Rattle.connection_laws.proofs.Terms.{Watched, events_of_elements, element_events, cut_bytes, payloads_of, Frame}
+use Rattle.connection_laws.proofs.Terms.{Reply, Report, History, end_ms, first_frame, frames, payloads, bytes_received}
+use Rattle.connection_laws.proofs.Terms.{sizes, Film, AreLaid, picture_time, Identity, frames_among, pieces_of}
+use Rattle.connection_laws.proofs.Terms.{wire_size, WatchStage, begins_film, is_complete, time_in, units_until}
+use Rattle.connection_laws.proofs.Terms.{IsFilmHeard}
 use Rattle.connection_laws.proofs.ClientInput.{IsDrained, no_sum}
 use Rattle.connection_laws.proofs.MeterInput.{AreTexts, Stream, all_of, begun_sum, two_moments, IsReadingOf, film_place}
 use Rattle.connection_laws.proofs.ElementStreams.{cut_front}
@@ -47,11 +47,9 @@ block_reply : (b : List ℕ) (ys : List (List ℕ)) (s : Sum) → (element_event
     → (steps s (events_of_elements (b ∷ ys))).replies ≡ s.replies → (t : Sum) × ((steps t (events_of_elements
     ys)).replies ≡ t.replies)
 block_reply b ys s (inl frame) same =
-    let P : List ClientEvent → Type 0 =
-    λ l. (steps s (l ++ events_of_elements ys)).replies ≡ s.replies in (step (Frame b) s, subst P frame same)
+    (step (Frame b) s, rw frame at same)
 block_reply b ys s (inr report) same =
-    let P : List ClientEvent → Type 0 =
-    λ l. (steps s (l ++ events_of_elements ys)).replies ≡ s.replies in (step (Report b) s, subst P report same)
+    (step (Report b) s, rw report at same)
 
 -- a block of which the only moment is a reply, and the blocks after it
 record ReplyThen (m : List ℕ) : Type 0 where
@@ -71,8 +69,7 @@ all_blocks {bs = []} {ps = []} {m} later reply_then silent are texts all = refl
 all_blocks {bs = []} {ps = y ∷ ys} {m} [] reply_then silent are texts all = cc
 all_blocks {bs = []} {ps = y ∷ ys} {m} (z ∷ zs) reply_then silent are texts all =
     let first : z ≡ y = cc in
-    let P : List ℕ → Type 0 = λ q. element_events q ≡ Reply q ∷ [] in
-    absurd (omega (arith, silent.same, more_reply y ys silent.sum (subst P first texts.0.moment)))
+    absurd (omega (arith, silent.same, more_reply y ys silent.sum (rw first at texts.0.moment)))
 all_blocks {bs = b ∷ bs} {ps = []} {m} later reply_then silent are texts all =
     let first : reply_then.block ≡ b = cc in absurd (no_reply b reply_then.block m are.0.moment reply_then.reply first)
 all_blocks {bs = b ∷ bs} {ps = y ∷ ys} {m} later reply_then silent are texts all =
@@ -93,7 +90,7 @@ all_elements {ps = a ∷ []} {m} x reply_then all two =
     let first : x.first ≡ a = cc in
     let P : List ℕ → Type 0 = λ q. element_events q ≡ Reply q ∷ [] in
     let one : steps no_sum (events_of_elements (a ∷ [])) ≡ steps no_sum (Reply a ∷ []) =
-    ap (λ l. steps no_sum (l ++ [])) (subst P first x.first_is.moment) in
+    cc (subst P first x.first_is.moment) in
     absurd (omega (arith, two, ap (λ (s : Sum). s.replies) one))
 all_elements {ps = a ∷ b ∷ ps} {m} x reply_then all two =
     let first : x.first ≡ a = cc in
@@ -101,12 +98,10 @@ all_elements {ps = a ∷ b ∷ ps} {m} x reply_then all two =
     let rest : ps ++ reply_then.block ∷ reply_then.rest ≡ x.blocks ++ x.later = cc in
     let P : List ℕ → List ℕ → Type 0 = λ q r. (steps no_sum (events_of_elements (q ∷ r ∷ ps))).replies ≡ 2 in
     let there : (steps no_sum (events_of_elements (x.first ∷ x.second ∷ ps))).replies ≡ 2 =
-    subst (λ r. P x.first r) (sym second) (subst (λ q. P q b) (sym first) two) in
-    let same : (steps (begun_sum x) (events_of_elements ps)).replies ≡ 2 =
-    sym (ap (λ (s : Sum). s.replies) (two_moments x ps)) ∙ there in
-    ap (λ q. q ∷ b ∷ ps) (sym first) ∙ (ap (λ r. x.first ∷ r ∷ ps) (sym second)
-    ∙ ap (λ l. x.first ∷ x.second ∷ l) (all_blocks x.later reply_then
-    (record { sum = begun_sum x; same = same }) x.blocks_are x.later_are rest))
+    rw second (subst (λ q. P q b) (sym first) two) in
+    let same : (steps (begun_sum x) (events_of_elements ps)).replies
+    ≡ 2 = cc (two_moments x ps, there) in rw (← first, ← second)
+    (rw (all_blocks x.later reply_then (record { sum = begun_sum x; same = same }) x.blocks_are x.later_are rest))
 
 pub done_sum : {wish : Wish} {watched : Watched} {bytes out : List ℕ} (x : Stream) (c : ℕ)
     (done : IsDrained wish watched bytes out) → bytes ≡ take c (framed_bytes (all_of x))
@@ -251,8 +246,7 @@ module _ (s : WholeStream) where
           time_is = its_time.time_is;
           units_are = λ some. its_time.units_are some ∙ count;
           next = λ fewer.
-              let less : d < sum (take (its.count + 1) all) = its.next (omega (arith, fewer, many)) in
-              omega (arith, came, less, ap (λ n. sum (take (n + 1) all)) many);
+              omega (arith, came, its.next (omega (arith, fewer, many)), ap (λ n. sum (take (n + 1) all)) many);
         },
         came,
       )
@@ -265,12 +259,10 @@ sum_most xs a = sum_by-take-le (λ (x : ℕ). x) xs a
 pub run_total : (film : Film) (identity : Identity)
     → length (framed_bytes (run_pieces (film_run film identity))) ≡ sum (film_sizes film)
 run_total film identity =
-    (run-sum film 0 (length film.units.items) identity (omega arith) (omega arith)).1
-    ∙ ap (λ us. sum (map (λ u. wire_size film.slice_starts.items u) us)) (units_all film)
+    cc ((run-sum film 0 (length film.units.items) identity (omega arith) (omega arith)).1, units_all film)
 
 pub blocks_sum : (s : WholeStream) → length (framed_bytes s.x.blocks) ≡ sum (film_sizes s.film)
-blocks_sum s =
-    ap (λ bs. length (framed_bytes bs)) (s.blocks ∙ sym (run_blocks s.film s.identity)) ∙ run_total s.film s.identity
+blocks_sum s = cc (s.blocks, run_blocks s.film s.identity, run_total s.film s.identity)
 
 -- what was received of an entire film
 pub record IsWholeOf (film : Film) (x : Stream) (h : History) : Type 0 where
@@ -294,15 +286,14 @@ module _ (s : WholeStream) where
         | inl fewer ↦ absurd (omega (arith, its.next fewer, blocks_sum s, sum_most all (its.count + 1)))
         | inr more ↦ omega (arith, more, its.among)
       ] in
-      let are : sizes h ≡ all =
-      ap (λ (s : Sum). s.sizes) sum_here ∙ (its.sizes_are ∙ take_all its.count all (omega (arith, every))) in
+      let are : sizes h ≡ all = cc (sum_here, its.sizes_are, take_all its.count all (omega (arith, every))) in
       let some : 0 < frames h =
       ltb-true 0 (frames h) (and_parts (nat_lt 0 (frames h)) (length (sizes h) == units h) complete).0 in
       let same : length (sizes h) ≡ units h =
       eqb-true (length (sizes h)) (units h) (and_parts (nat_lt 0 (frames h))
       (length (sizes h) == units h) complete).1 in
       let its_time = timed s k gone sum_here in
-      record { sizes_are = are; count = sym (its_time.units_are some) ∙ (sym same ∙ ap (λ (l : List ℕ). length l) are) }
+      record { sizes_are = are; count = cc (its_time.units_are some, same, are) }
 
   pub film_comes_back : {first last : PictureUnit} (h : History)
       → sum_of h ≡ steps (begun_sum x) (events_of_elements x.blocks) → slice_get film.units.items 0 ≡ Some first

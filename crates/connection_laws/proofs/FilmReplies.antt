@@ -1,7 +1,7 @@
 -- The reply to the PLAY that begins a client's film, as the client reads it.
-use Rattle.std.proofs.Common.{◌≡◌, ℕ, ◌+◌, ◌*◌, ◌/◌, ◌-◌, ◌^◌, ◌<◌, ◌≤◌, ◌&&◌, ◌==◌, true, not, nat_lt, nat_le, List}
-use Rattle.std.proofs.Common.{[], ◌∷◌, ◌++◌, drop, length, get_or, codes, decimal, string_bytes, Option, Some, refl}
-use Rattle.std.proofs.Common.{sym, ap, ap₂, subst, ◌∙◌, arith}
+use Rattle.std.proofs.Common.{◌≡◌, ℕ, ◌+◌, ◌*◌, ◌-◌, ◌^◌, ◌<◌, ◌≤◌, ◌&&◌, ◌==◌, true, not, nat_lt, nat_le, List, []}
+use Rattle.std.proofs.Common.{◌∷◌, ◌++◌, drop, length, get_or, codes, decimal, string_bytes, Option, Some, refl, sym}
+use Rattle.std.proofs.Common.{ap, ap₂, subst, ◌∙◌, arith}
 use Rattle.std.specs.List.{list_all}
 use Rattle.std.proofs.lemmas.Bool.{and_parts}
 use Rattle.std.proofs.Math.Nat.{div-mul-le_self, mul-le-mul}
@@ -42,9 +42,7 @@ film_brief film =
 end_fits : (film : Film) → length_ms film < 2 ^ 64
 end_fits film =
     let units = length film.units.items * picture_time film.rate in
-    let most : units ≤ 4194304 * 360000 = mul-le-mul (film-few film) (film_brief film) in
-    let small : units / 360 * 360 ≤ units = div-mul-le_self units 360 in
-    omega (arith, most, small)
+    omega (arith, mul-le-mul (film-few film) (film_brief film), div-mul-le_self units 360)
 
 name_prints : (name : List ℕ) → good_name name ≡ true → list_all is_url_byte name ≡ true
 name_prints name good =
@@ -75,9 +73,8 @@ started_reply : {front : List ℕ} (fields : List Field) (slots : ℕ) → front
     → started_text front slots ≡ reply_text 200 (Some 2) (fields ++ field (codes "x-Start") (decimal slots) ∷ []) []
 started_reply {front} fields slots is =
     let own = field (codes "x-Start") (decimal slots) in
-    let more : front ++ field_line own ≡ reply_front 200 (Some 2) (fields ++ own ∷ []) =
-    front_field {old = front} 200 (Some 2) fields own refl is in
-    whole_reply {old = front ++ field_line own} 200 (Some 2) (fields ++ own ∷ []) [] refl more
+    whole_reply {old = front ++ field_line own} 200 (Some 2) (fields ++ own ∷ []) [] refl
+    (front_field {old = front} 200 (Some 2) fields own refl is)
 
 -- a client's PLAY was admitted, and its reply is a complete message
 record IsPlayAnswered (b : Beginning) (h : HeardMessage) (new : SessionState) (start : ℕ) : Type 0 where

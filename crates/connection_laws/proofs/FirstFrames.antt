@@ -1,7 +1,7 @@
 -- The first frame that a client receives of a film, and the time of a picture in it.
-use Rattle.std.proofs.Common.{◌≡◌, ℕ, zero, suc, ◌+◌, ◌-◌, ◌%◌, ◌<◌, ◌≤◌, ◌==◌, ◌&&◌, Bool, true, false, not, nat_le}
-use Rattle.std.proofs.Common.{cond, List, [], ◌∷◌, ◌++◌, length, take, drop, get_or, is_ok, sym, ap, subst, ◌∙◌}
-use Rattle.std.proofs.Common.{append_assoc, min, arith, inl, inr}
+use Rattle.std.proofs.Common.{◌≡◌, ℕ, zero, suc, ◌+◌, ◌-◌, ◌<◌, ◌≤◌, ◌==◌, ◌&&◌, Bool, true, false, not, nat_le, cond}
+use Rattle.std.proofs.Common.{List, [], ◌∷◌, ◌++◌, length, take, drop, get_or, is_ok, sym, ap, subst, ◌∙◌, append_assoc}
+use Rattle.std.proofs.Common.{min, arith, inl, inr}
 use Rattle.std.proofs.lemmas.Bool.{cases_eq, cond-true, cond-false, eq-eqb, ne_eqb, leb-true, and_parts}
 use Rattle.std.proofs.lemmas.List.{get_or-drop, get_or-take, length-take}
 use Rattle.connection_laws.proofs.Terms.{picture_time, Packet, unit_packets, pieces_of, unit_pieces, FramedRun}
@@ -11,7 +11,6 @@ use Rattle.connection_laws.proofs.Terms.{Report, end_ms, first_frame, frames, is
 use Rattle.mpeg_scan.specs.declared.units.Unit.{Unit as PictureUnit}
 use Rattle.mpeg_scan.specs.Layout.{BeginsSequence, IsLaid}
 use Rattle.rtp_pack.specs.Heads.{head_of}
-use Rattle.rtp_pack.specs.Packets.{DoCover}
 use Rattle.rtp_pack.proofs.UnitPacketLemmas.{packets-cover}
 use Rattle.rtsp_client.specs.Films.{is_first_good, is_next_good}
 use Rattle.connection_laws.proofs.Blocks.{frame_block, frame_blocks, frame_moment, frames_one, frames_after}
@@ -34,7 +33,6 @@ gone_on h (m ∷ ms) gone good = gone_on (m ∷ h) ms (good.0, gone) good.1
 pub first_good : (h : History) → HasGoneOn h → 0 < frames h → begins_film (drop 20 (first_frame h)) ≡ true
 first_good [] gone some = absurd (omega (arith, some))
 first_good (Frame b ∷ h) gone some =
-    let P : List ℕ → Type 0 = λ f. begins_film (drop 20 f) ≡ true in
     let head : Bool = is_ok (head_of (drop 4 b)) in
     let last : Bool = cond (frames h == 0) (is_first_good h b) (is_next_good h b) in
     let all : last ≡ true =
@@ -45,11 +43,11 @@ first_good (Frame b ∷ h) gone some =
       | inl none ↦
           let is : is_first_good h b ≡ true =
           sym (cond-true (frames h == 0) (is_first_good h b) (is_next_good h b) (eq-eqb (frames h) 0 none)) ∙ all in
-          subst P (sym (cond-true (frames h == 0) b (first_frame h) (eq-eqb (frames h) 0 none)))
+          rw (cond-true (frames h == 0) b (first_frame h) (eq-eqb (frames h) 0 none))
           (and_parts (begins_film (drop 20 b))
           (nat_le 1 (units_until (end_ms h) (time_in b)) && nat_le (units_until (end_ms h) (time_in b)) 4194304) is).0
       | inr more ↦
-          subst P (sym (cond-false (frames h == 0) b (first_frame h) (ne_eqb (frames h) 0 more)))
+          rw (cond-false (frames h == 0) b (first_frame h) (ne_eqb (frames h) 0 more))
           (first_good h gone.1 (omega (arith, more)))
     ]
 first_good (_ ∷ h) gone some = first_good h gone.1 some
@@ -148,15 +146,13 @@ module _ {starts : List ℕ} {unit : PictureUnit} where
   frame_time_is {run} {first} laid led begins good =
       let p = led.packet in
       let its : List ℕ = payload run.film p in
-      let Q : List ℕ → Type 0 = λ b. begins_film (drop 20 b) ≡ true in
-      let all : begins_film its ≡ true = subst Q led.first_is good in
+      let all : begins_film its ≡ true = rw led.first_is at good in
       let long : 12 ≤ length its =
       leb-true 12 (length its) (and_parts (nat_le 12 (length its)) _ (and_parts _ _ (and_parts _ _ all).0).0).0 in
       let count : length its ≡ min (p.to - p.from) (length (drop p.from run.film)) =
       length-take (p.to - p.from) (drop p.from run.film) in
       let many : 7 < p.to - p.from = omega (arith, long, count) in
-      let P : List Packet → Type 0 = λ ps. DoCover unit.from ps unit.to in
-      let cover = subst P led.are (packets-cover starts unit laid) in
+      let cover = rw led.are at (packets-cover starts unit laid) in
       let byte : get_or its 7 0 ≡ get_or run.film (unit.from + 7) 0 =
       rw (get_or-take (p.to - p.from) (drop p.from run.film) 7 0 many, get_or-drop p.from run.film 7 0, cover.0) in
-      ap time_in led.first_is ∙ ap picture_time (ap (λ n. n % 16) byte ∙ begins.rate_is)
+      cc (led.first_is, byte, begins.rate_is)

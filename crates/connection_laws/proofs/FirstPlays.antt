@@ -111,7 +111,7 @@ module _ {b : Beginning} where
       let S : Playback → Run → Type 0 = λ p r. IsSending (stored_sizes stored) p r planned.plan in
       let playback = playback_same (session_playback stored.film settings setup) (playback_of b.wish stored) refl
       is.slot_units is.settled.buffer is.settled.delay in
-      subst (S (playback_of b.wish stored)) is.run_is (subst (λ p. S p planned.run) playback is.sending)
+      rw is.run_is at (subst (λ p. S p planned.run) playback is.sending)
 
   heard_planned : {h : HeardMessage} {prepared : Prepared} → IsWaiting b h.old
       → h.message ≡ play_text b.wish b.session → (heard : IsPlayHeard h prepared)

@@ -1,7 +1,7 @@
 -- What a client's history comes to, but for its slots: a sum that each moment adds to.
 use Rattle.std.proofs.Common.{◌≡◌, ℕ, ◌+◌, ◌<◌, ◌≤◌, ◌⊎◌, ◌==◌, ◌&&◌, Bool, true, false, not, nat_lt, if◌then◌else◌}
-use Rattle.std.proofs.Common.{List, [], ◌∷◌, ◌++◌, length, drop, get_or, unwrap_or, refl, sym, subst, ◌∙◌, append_assoc}
-use Rattle.std.proofs.Common.{arith, inl, inr}
+use Rattle.std.proofs.Common.{List, [], ◌∷◌, ◌++◌, length, drop, get_or, unwrap_or, refl, sym, ◌∙◌, append_assoc, arith}
+use Rattle.std.proofs.Common.{inl, inr}
 use Rattle.std.proofs.lemmas.Bool.{cond-true, cond-false, ne_eqb}
 use Rattle.std.proofs.lemmas.List.{append-nil, length-append}
 use Rattle.connection_laws.proofs.Terms.{framed_bytes, play_range, History, ClientEvent, Frame, Reply, Report, Slot}
@@ -103,8 +103,8 @@ pub record IsSame (s t : Sum) : Type 0 where
 pub block_moved : {b : List ℕ} (ms : List ClientEvent) (s : Sum) (P : Sum → Type 0)
     → (element_events b ≡ Frame b ∷ []) ⊎ (element_events b ≡ Report b ∷ []) → P (steps (step (Frame b) s) ms)
     → P (steps (step (Report b) s) ms) → P (steps s (element_events b ++ ms))
-block_moved ms s P (inl frame) one two = subst (λ l. P (steps s (l ++ ms))) (sym frame) one
-block_moved ms s P (inr report) one two = subst (λ l. P (steps s (l ++ ms))) (sym report) two
+block_moved ms s P (inl frame) one two = rw frame one
+block_moved ms s P (inr report) one two = rw report two
 
 pub blocks_same : (bs : List (List ℕ)) (s : Sum) → AreOneBlocks bs → IsSame s (steps s (events_of_elements bs))
 blocks_same [] s are = record { replies = refl; end_ms = refl }

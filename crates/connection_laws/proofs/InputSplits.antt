@@ -1,6 +1,5 @@
 -- However the same bytes between the same slots are split, a connection sends the same.
-use Rattle.std.proofs.Common.{◌≡◌, ℕ, ◌++◌, Bool, true, false, List, [], ◌∷◌, map, refl, ap, sym, ◌∙◌, subst, inl, inr}
-use Rattle.std.proofs.Common.{ap₂}
+use Rattle.std.proofs.Common.{◌≡◌, ℕ, ◌++◌, List, [], ◌∷◌, map, refl, ap, sym, ◌∙◌, subst, inl, inr, ap₂}
 use Rattle.std.proofs.lemmas.List.{append-nil, append_assoc, map-append}
 use Rattle.connection_laws.proofs.Terms.{IoEvent, HeardBytes, HeardSlot, Stored, AreFilms, Comes, Round, Runs}
 use Rattle.connection_laws.proofs.Terms.{IsStopped, rounds_outcomes, takings_bytes, takings_outcomes, HasStepped}
@@ -116,12 +115,9 @@ module _ {base cur mid new : Stage} {all : Exchange} (front : FrontTaken base cu
       let ps : List Element = taken.way.elements in
       let before : GoesAll (longer base (first ++ bytes)) elements taken.opened =
       rw (← (ap (λ input. stage base.session input) (append_assoc base.input first bytes)))
-      (subst (GoesAll (longer (longer base first) bytes) elements) (sym taken.comes.3)
-      (goes_grow (longer base first) cur elements bytes goes)) in
-      subst (Split base new)
-      (ap (λ x. joined x all) (elements_join first bytes elements ps)
-      ∙ joined_assoc (elements_exchange first elements) (elements_exchange bytes ps) all)
-      (later.each base (record {
+      (rw taken.comes.3 (goes_grow (longer base first) cur elements bytes goes)) in
+      rw (ap (λ x. joined x all) (elements_join first bytes elements ps)
+      ∙ joined_assoc (elements_exchange first elements) (elements_exchange bytes ps) all) at (later.each base (record {
         bytes = first ++ bytes;
         way = way_then (record { elements = elements; goes = before }) taken.way;
       }))
@@ -152,9 +148,7 @@ module _ {base cur mid new : Stage} {all : Exchange} (front : FrontTaken base cu
       (joined (front_exchange front) (joined (event_exchange event taken.due taken.halt)
       (joined (elements_exchange [] taken.way.elements) all)))
   event_split {event = HeardBytes bytes} taken done =
-      let S : List SentPart → Outcome → Type 0 = λ ps o. Split base new (joined (front_exchange front)
-      (joined (event_exchange (HeardBytes bytes) ps o) (joined (elements_exchange [] taken.way.elements) all))) in
-      rw taken.comes.0 (subst (S []) (sym taken.comes.1) (bytes_split taken))
+      rw taken.comes.0 (rw taken.comes.1 (bytes_split taken))
   event_split {event = HeardSlot slot} taken done = slot_split taken done
   event_split taken done = absurd taken.comes
 
@@ -195,8 +189,7 @@ rounds_split cur new (round ∷ rounds) takes done =
     let taken : EventTaken cur mid round.event =
     record { opened = runs.opened; due = round.due; halt = round.halt; comes = runs.comes; way = path.way } in
     record {
-      each = λ base front. subst (Split base new)
-          (ap (joined (front_exchange front)) (round_exchange new round rounds takes path))
+      each = λ base front. rw (ap (joined (front_exchange front)) (round_exchange new round rounds takes path)) at
           (event_split front later taken done);
     }
 
@@ -230,7 +223,8 @@ record ExchangesAlike (a b : Exchange) : Type 0 where
 -- from one stage on, these legs come to the same where what they exchange is alike
 abbrev ComeToSame : List Leg → List Leg → Stage → Stage → Type 0
 ComeToSame xs ys one other = (at : Stage) → AreFilms at.session.films → LegsAll at xs one → LegsAll at ys other
-    → ExchangesAlike (legs_exchange xs) (legs_exchange ys) → SameLegs one other (legs_exchange xs).bytes (legs_exchange ys).bytes
+    → ExchangesAlike (legs_exchange xs) (legs_exchange ys)
+    → SameLegs one other (legs_exchange xs).bytes (legs_exchange ys).bytes
 
 splits_same : {base one other : Stage} {a b : Exchange} → AreFilms base.session.films → (x : Split base one a)
     (y : Split base other b) → ExchangesAlike a b → ComeToSame x.legs y.legs one other
@@ -240,13 +234,13 @@ splits_same {base} {other = other} {a} {b} films x y given legs =
     (sym (ap (λ (e : Exchange). e.heard) x.all_is) ∙ given.heard ∙ ap (λ (e : Exchange). e.heard) y.all_is) in
     let xs = joined (stretch_exchange x.first) (legs_exchange x.legs) in
     let both : AreAlike xs (joined (stretch_exchange y.first) (legs_exchange y.legs)) =
-    subst (AreAlike xs) y.all_is (subst (λ e. AreAlike e b) x.all_is given.alike) in
+    rw y.all_is at (subst (λ e. AreAlike e b) x.all_is given.alike) in
     let way = x.first.way in
     let ends = ends_same (legs_exchange x.legs) (legs_exchange y.legs) films way
     (path_moved (ap (longer base) (sym cut.0)) y.first.way) (record { answers = both.answers; memory = both.memory }) in
     let there : AreFilms way.last.session.films =
-    subst AreFilms (sym (goes_films (longer base x.first.bytes) way.last x.first.elements way.goes)) films in
-    let rest = legs way.last there x.legs_are (subst (λ s. LegsAll s y.legs other) ends.last_is y.legs_are)
+    rw (goes_films (longer base x.first.bytes) way.last x.first.elements way.goes) films in
+    let rest = legs way.last there x.legs_are (rw ends.last_is at y.legs_are)
     (record { heard = cut.1; alike = ends.later }) in
     record { last = rest.last; bytes = rw (y.all_is, ends.bytes, rest.bytes, x.all_is) }
 
@@ -279,15 +273,14 @@ legs_same {one} {other} (x ∷ xs) (y ∷ ys) old films legs too given =
     (record { due = y.due; new = y.opened.session; stepped = rw (← slots) again.stepped }) in
     let opened : y.opened ≡ x.opened = opened_same x.opened y.opened step.1 (again.input ∙ sym leg.input) in
     let kept : AreFilms x.opened.session.films =
-    subst AreFilms (sym (ap (λ (n : List Stored × List ℕ). n.0)
-    (stepped_names old.session x.slot x.due x.halt x.opened.session leg.stepped))) films in
+    rw (ap (λ (n : List Stored × List ℕ). n.0)
+    (stepped_names old.session x.slot x.due x.halt x.opened.session leg.stepped)) films in
     let rest = splits_same kept (split_after x.rest xs legs.1) (split_after (moved opened y.rest) ys too.1)
     (record { heard = cc given.heard; alike = record { answers = step.2; memory = given.alike.memory } })
     (legs_same xs ys) in
     record {
       last = rest.last;
-      bytes = ap (λ ps. parts_bytes ps ++ ((exchange_of y.rest.elements).bytes ++ (legs_exchange ys).bytes)) step.0
-          ∙ ap (λ bs. parts_bytes x.due ++ bs) rest.bytes;
+      bytes = cc (step.0, rest.bytes);
     }
 
 -- ---- from a connection's beginning on
@@ -321,7 +314,7 @@ takes_all old new (round ∷ rounds) runs = (runs.0, (runs.1.0, inl runs.1.1, ta
 pub takes_last : {mid new : Stage} {round : Round} (old : Stage) (rounds : List Round) (end : ConnEnd) →
     RunsAll old rounds mid → Runs mid round new → IsStopped end new → TakesUp old (rounds ++ round ∷ []) new
 takes_last {new} {round} old [] end runs last stopped =
-    (new, (subst (λ s. Runs s round new) runs last, inr (end, stopped), refl))
+    (new, (rw runs at last, inr (end, stopped), refl))
 takes_last {mid} {new} {round} old (first ∷ rounds) end runs last stopped =
     (runs.0, (runs.1.0, inl runs.1.1, takes_last runs.0 rounds end runs.1.2 last stopped))
 

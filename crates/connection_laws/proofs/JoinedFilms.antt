@@ -1,13 +1,12 @@
 -- What is written of films, as entire lists: the lemmas on plays joined.
 use Rattle.std.specs.Prelude.{⊤}
-use Rattle.std.proofs.Common.{◌≡◌, ℕ, ◌+◌, ◌-◌, ◌<◌, ◌≤◌, ◌++◌, Bool, true, min, List, ◌∷◌, length, take, drop, refl}
-use Rattle.std.proofs.Common.{ap, sym, ◌∙◌, arith, []}
+use Rattle.std.proofs.Common.{◌≡◌, ℕ, ◌+◌, ◌-◌, ◌<◌, ◌≤◌, ◌++◌, Bool, true, List, ◌∷◌, length, take, drop, refl, ap}
+use Rattle.std.proofs.Common.{sym, ◌∙◌, arith, []}
 use Rattle.std.proofs.lemmas.List.{append-nil, length-take, length-drop}
 use Rattle.std.proofs.lemmas.List.Sums.{sum_by-cons}
 use Rattle.std.proofs.Math.Seq.{take-append-add}
 use Rattle.connection_laws.proofs.Terms.{IsBoundary, framed_bytes, total_bytes, IsPacerState, PacerState, first_slots}
 use Rattle.connection_laws.proofs.Terms.{plan_bytes, AreOver, FilmPlay, due_of, film_of, film_written}
-use Rattle.pacer.specs.Boundaries.{bytes_between}
 use Rattle.pacer.proofs.PacerStateLemmas.{first-slots-rise}
 use Rattle.pacer.proofs.SendLemmas.{between-join}
 use Rattle.conn.proofs.FilmBytes.{sent_through, through_is}
@@ -45,10 +44,9 @@ film_is slot (play ∷ next ∷ plays) bytes is =
     let front : List ℕ = take play.keep (film_of play) in
     let size : length front ≡ play.keep = omega (arith, length-take play.keep (film_of play), is.1.2.1) in
     let later : is.0 ≡ film_written slot (next ∷ plays) = film_is slot (next ∷ plays) is.0 is.1.1 in
-    is.1.0 ∙ ap (λ n. take n (film_of play) ++ is.0) due ∙ ap (λ r. front ++ r) later
-    ∙ sym (take-append-add front (bytes_of_plays (next ∷ plays)) (all_due slot (next ∷ plays)))
-    ∙ ap (λ n. take (n + all_due slot (next ∷ plays)) (front ++ bytes_of_plays (next ∷ plays))) (size ∙ sym due)
-    ∙ ap (λ n. take n (front ++ bytes_of_plays (next ∷ plays))) (sym (sum_by-cons (due_of slot) play (next ∷ plays)))
+    rw (is.1.0, due, later)
+    (rw (← (take-append-add front (bytes_of_plays (next ∷ plays)) (all_due slot (next ∷ plays))), size, ← due)
+    (rw (← (sum_by-cons (due_of slot) play (next ∷ plays)))))
 
 pub film_over_all : (slot : ℕ) (plays : List FilmPlay) (bytes : List ℕ) → IsFilm slot plays bytes → AreOver slot plays
 film_over_all slot (play ∷ next ∷ plays) bytes is = (is.1.2.0, film_over_all slot (next ∷ plays) is.0 is.1.1)
@@ -76,7 +74,7 @@ pub film_holds : (p : PacerState) (n : ℕ) → IsPacerState p → n ≤ total_b
 film_holds p n is few = omega (arith, few, is.whole, length-drop p.before (framed_bytes p.pieces))
 
 pub due_now : (p : PacerState) (slot : ℕ) → IsOnTime p slot → due_of slot (play_with p p.keep) ≡ p.sent
-due_now p slot on = sym (on.even ∙ on.pacing.due ∙ ap (λ n. min (first_slots p.plan n) p.keep) on.passed)
+due_now p slot on = cc (on.passed, on.pacing.due, on.even)
 
 -- a play's bytes so far
 pub film_now : (p : PacerState) (slot : ℕ) → IsOnTime p slot
@@ -102,8 +100,7 @@ pub stays_due : {heard : ℕ} (ended : EndedPlay heard) (slot : ℕ) → heard �
 stays_due {heard} ended slot later =
     let rise : first_slots p.plan (heard + 1 - p.start) ≤ first_slots p.plan (slot + 1 - p.start) =
     first-slots-rise p.plan (heard + 1 - p.start) (slot + 1 - p.start) (omega (arith, later)) in
-    let now : min (first_slots p.plan (heard + 1 - p.start)) p.keep ≡ p.sent = due_now p heard on in
-    omega (arith, rise, now, sent)
+    omega (arith, rise, due_now p heard on, sent)
   where
     open ended use {p, on, sent}
 
@@ -111,9 +108,7 @@ stays_due {heard} ended slot later =
 pub sent_to : (p : PacerState) (to : ℕ) → p.sent ≤ to
     → take p.sent (film_in p) ++ plan_bytes p p.sent to ≡ take to (film_in p)
 sent_to p to from =
-    let first : take p.sent (film_in p) ≡ bytes_between p.pieces p.before (p.before + p.sent) =
-    ap (λ n. take n (film_in p)) (omega arith) in
-    ap (λ bs. bs ++ plan_bytes p p.sent to) first
+    ap (λ bs. bs ++ plan_bytes p p.sent to) (ap (λ n. take n (film_in p)) (omega arith))
     ∙ between-join p.pieces p.before (p.before + p.sent) (p.before + to) (omega arith) (omega (arith, from))
     ∙ ap (λ n. take n (film_in p)) (omega arith)
 

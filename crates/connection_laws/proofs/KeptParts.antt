@@ -46,8 +46,8 @@ reply_keeps part same false s = refl
 pub taken_keeps : {old new : Stage} {message : List ℕ} {outcome : Outcome} {parts : List SentPart}
     → IsReplied old message outcome parts new → lasting_part new.session ≡ lasting_part old.session
 taken_keeps replied =
-    ap (λ (s : Stage). lasting_part s.session) replied.new_is
-    ∙ reply_keeps lasting_part (λ s. refl) (can_reply replied.answered) replied.answered ∙ request_keeps replied.heard
+    rw (replied.new_is, reply_keeps lasting_part (λ s. refl) (can_reply replied.answered) replied.answered)
+    (rw (request_keeps replied.heard))
 
 pub takes_keep : (old new : Stage) (takings : List ElementStep) → TakesAll old takings new
     → lasting_part new.session ≡ lasting_part old.session
@@ -75,10 +75,9 @@ pub record IsKeptInSlots {A : Type 0} (part : SessionState → A) : Type 0 where
 
 module _ {A : Type 0} {part : SessionState → A} where
   sent_keeps : IsKeptInSlots part → (old : SessionState) (slot : ℕ) → part (after_play (sent_slot old slot)) ≡ part old
-  sent_keeps kept old slot =
-      kept.done (sent_slot old slot)
-      ∙ reply_keeps part kept.reply (old.waits && is_between (stepped_in true slot old.state)) (sent_due old slot)
-      ∙ kept.due old slot
+  sent_keeps kept old slot = rw (kept.done (sent_slot old slot))
+      (rw (reply_keeps part kept.reply (old.waits && is_between (stepped_in true slot old.state)) (sent_due old slot))
+      (rw (kept.due old slot)))
 
   slot_cases : IsKeptInSlots part → (old : SessionState) (slot : ℕ) (taken sending : Bool)
       → part (if taken then (if sending then after_play (sent_slot old slot) else record old { heard = slot }) else old)

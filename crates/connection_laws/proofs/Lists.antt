@@ -1,6 +1,6 @@
 -- Lists, element by element: what each element satisfies, and functions that join what they make of each.
 use Rattle.std.specs.Prelude.{⊤}
-use Rattle.std.proofs.Common.{◌≡◌, ℕ, suc, List, [], ◌∷◌, ◌++◌, take, sym, ap, ◌∙◌, append_assoc}
+use Rattle.std.proofs.Common.{◌≡◌, ℕ, suc, List, [], ◌∷◌, ◌++◌, take, ap, append_assoc}
 
 abbrev pub Each : {A : Type 0} → (A → Type 0) → List A → Type 0
 Each P [] = ⊤
@@ -37,5 +37,5 @@ pub joins_parts : {A : Type 0} {B : Type 0} (all : List A → List B) → Joins 
     → all (xs ++ ys) ≡ all xs ++ all ys
 joins_parts all joins [] ys = ap (λ l. l ++ all ys) joins.none
 joins_parts all joins (x ∷ xs) ys =
-    joins.more x (xs ++ ys) ∙ ap (λ l. joins.one x ++ l) (joins_parts all joins xs ys)
-    ∙ sym (append_assoc (joins.one x) (all xs) (all ys)) ∙ ap (λ l. l ++ all ys) (sym (joins.more x xs))
+    rw (joins.more x (xs ++ ys), joins_parts all joins xs ys, ← (append_assoc (joins.one x) (all xs) (all ys)))
+    (rw (← (joins.more x xs)))

@@ -56,7 +56,7 @@ front_of xs ys w c is =
       | inl less ↦
           let short = take_short w c in
           absurd (omega (arith, short, ap (λ (l : List ℕ). length l) is, length-append xs ys, less))
-      | inr more ↦ sym mine ∙ (ap (λ l. take (length xs) l) is ∙ take-take (length xs) c w more)
+      | inr more ↦ cc (mine, is, take-take (length xs) c w more)
     ]
 
 -- the film that had come with these bytes lies between the curves of a slot
@@ -119,8 +119,7 @@ slot_met {bytes} {at} s slot front two fed read =
       is = front.front_is;
     }) playing two.few in
     let its = heard_of stream front.heard.gone reading count in
-    let between = (fed (omega (arith, there, first))).between reading.past in
-    (its.0, rw (its.1, first) between)
+    (its.0, rw (its.1, first) ((fed (omega (arith, there, first))).between reading.past))
   where
     open s use {wish, stream, begin, count}
     open stream use {film}
@@ -146,7 +145,7 @@ always_round {event = HeardSlot slot} {old = old} {new} s came front two fed met
     let same : replies new.history ≡ replies old.history = ap replies grown in
     let begins_here : 1 < replies old.history → first_slot old.history ≡ s.begin = λ playing.
     sym (ap first_slot grown) ∙ two.begins (omega (arith, playing, same)) in
-    subst (IsMet s) (sym grown) (
+    rw grown (
       met,
       λ read. slot_met s slot front
           (record { few = omega (arith, two.few, same); begins = begins_here }) (fed slot refl) read,
@@ -168,7 +167,7 @@ pub record RepliesKnown (new : WatchStage) (begin : ℕ) : Type 0 where
 pub always_all : {bytes : List ℕ} {old : WatchStage} {rounds : List Round} {new : WatchStage} (s : WatchedStream)
     → HeardThrough s.stream.x bytes rounds old → RunsAll old rounds new → RepliesKnown new s.begin
     → AreFed s.wish s.stream.film s.stream.x s.begin bytes rounds → IsMet s old.history → IsMet s new.history
-always_all {rounds = []} s through all known fed met = subst (λ (at : WatchStage). IsMet s at.history) (sym all) met
+always_all {rounds = []} s through all known fed met = rw all met
 always_all {bytes} {old} {rounds = round ∷ rounds} {new} s through all known fed met =
     let mid = all.0 in
     let later = history-later mid new rounds all.1.2 in
@@ -178,8 +177,7 @@ always_all {bytes} {old} {rounds = round ∷ rounds} {new} s through all known f
     sym (slot_stays mid.history (events_of_rounds rounds) playing) ∙ (sym (ap first_slot later) ∙ known.begins) in
     let fed_here : (slot : ℕ) → round.event ≡ HeardSlot slot → begin ≤ slot
     → IsFed wish film x bytes (slot - begin) = λ slot event after_begin.
-    let F : List ℕ → Type 0 = λ b. IsFed wish film x b (slot - begin) in
-    subst F (append-nil bytes) (fed [] rounds round slot refl event after_begin) in
+    rw (append-nil bytes) at (fed [] rounds round slot refl event after_begin) in
     let mine : bytes ≡ take (length bytes) (framed_bytes (all_of x)) =
     front_of bytes (rounds_heard (round ∷ rounds)) (framed_bytes (all_of x)) c front in
     let now = always_round {event = round.event} s

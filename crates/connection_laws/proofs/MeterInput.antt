@@ -1,7 +1,7 @@
 -- What a client reads its meter by, where what came is a prefix of two replies, a film's blocks and
 -- later replies.
 use Rattle.std.proofs.Common.{◌≡◌, ℕ, zero, suc, ◌+◌, ◌-◌, ◌<◌, ◌≤◌, ◌==◌, ◌&&◌, ◌||◌, Bool, true, false, nat_lt, cond}
-use Rattle.std.proofs.Common.{min, List, [], ◌∷◌, ◌++◌, length, take, get_or, refl, sym, ap, ◌∙◌, arith, inl, inr}
+use Rattle.std.proofs.Common.{min, List, [], ◌∷◌, ◌++◌, length, take, get_or, refl, ap, ◌∙◌, arith, inl, inr}
 use Rattle.std.proofs.lemmas.Bool.{cases_lt, cond-true, cond-false, eq-eqb, lt-ltb, or_left, or_right}
 use Rattle.std.proofs.lemmas.List.{get_or-take, length-take-le, take-append-le, take_all}
 use Rattle.std.proofs.Math.Seq.{take-append-add}
@@ -59,18 +59,16 @@ block_cut : (b : List ℕ) (d : ℕ) → d ≤ length b → get_or b 0 0 ≡ 36 
 block_cut b zero few starts channel = refl
 block_cut b (suc d) few starts channel =
     let rest = take (suc d) b in
-    let long = length-take-le (suc d) b few in
     let c : Bool = nat_lt (length rest) 2 || nat_lt (get_or rest 1 0) 2 in
     let second : c ≡ true = elim (cases_lt (length rest) 2) [
       | inl short ↦ or_left (nat_lt (length rest) 2) (nat_lt (get_or rest 1 0) 2) (lt-ltb (length rest) 2 short)
       | inr more ↦
-          let there : get_or rest 1 0 ≡ get_or b 1 0 = get_or-take (suc d) b 1 0 (omega (arith, more, long)) in
           or_right (nat_lt (length rest) 2) (nat_lt (get_or rest 1 0) 2)
-          (lt-ltb (get_or rest 1 0) 2 (omega (arith, there, channel)))
+          (lt-ltb (get_or rest 1 0) 2
+          (omega (arith, get_or-take (suc d) b 1 0 (omega (arith, more, length-take-le (suc d) b few)), channel)))
     ] in
-    let first : (get_or rest 0 0 == 36) ≡ true =
-    eq-eqb (get_or rest 0 0) 36 (get_or-take (suc d) b 0 0 (omega arith) ∙ starts) in
-    cond-true ((get_or rest 0 0 == 36) && c) (length rest) 0 (ap (λ x. x && c) first ∙ second)
+    cond-true ((get_or rest 0 0 == 36) && c) (length rest) 0
+    (ap (λ x. x && c) (eq-eqb (get_or rest 0 0) 36 (get_or-take (suc d) b 0 0 (omega arith) ∙ starts)) ∙ second)
 
 blocks_cut : (bs : List (List ℕ)) (c : ℕ) → AreOneBlocks bs → cut_bytes (rest_at c bs) ≡ length (rest_at c bs)
 blocks_cut [] c are = refl
@@ -140,14 +138,13 @@ module _ {at : WatchStage} where
       let d = film_place x c in
       let bs = x.blocks in
       let within = all_within bs x.later d inside in
-      let k = count_ended d bs in record {
+      record {
         past = two.past;
-        sum = rw (two.sum, within.0, take-append-le k bs x.later (omega (arith, within.1)));
+        sum = rw (two.sum, within.0, take-append-le (count_ended d bs) bs x.later (omega (arith, within.1)));
         cut =
-            let bytes = count_bytes bs d (omega (arith, inside)) in
             let cut : cut_bytes at.rest ≡ length (rest_at d bs) =
             rw (two.rest, within.2, blocks_cut bs d x.blocks_are) in
-            omega (arith, bytes, cut, inside);
+            omega (arith, count_bytes bs d (omega (arith, inside)), cut, inside);
       }
 
   -- past it
@@ -170,8 +167,7 @@ module _ {at : WatchStage} where
       let whole : count_ended d bs ≡ length bs = count_whole bs d after in
       let front : take (count_ended d bs) bs ≡ bs = take_all (count_ended d bs) bs (omega (arith, whole)) in record {
         past = two.past;
-        sum = all ∙ (ap (λ n. steps t (events_of_elements (take n x.later))) none
-            ∙ ap (λ l. steps s (events_of_elements l)) (sym front));
+        sum = cc (all, none, front);
         cut =
             let cut : cut_bytes at.rest ≡ 0 =
             rw (two.rest, past.1) (texts_cut x.later (d - total) x.later_are) in

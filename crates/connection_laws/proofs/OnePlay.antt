@@ -1,12 +1,11 @@
 -- A connection that is asked for SETUP and PLAY, and perhaps TEARDOWN, has one play at most, of the
 -- entire film.
 use Rattle.std.specs.Prelude.{⊤}
-use Rattle.std.proofs.Common.{true, false, Option, None, is_some, inl, inr, ◌+◌, ◌≤◌, ◌≡◌, ℕ, zero, suc, ◌<◌, ◌^◌, List}
-use Rattle.std.proofs.Common.{[], ◌∷◌, ◌++◌, length, get_or, codes, refl, sym, ap, subst, ◌∙◌, arith}
-use Rattle.connection_laws.proofs.Terms.{film_url, play_text, setup_text, setup_parts, request_head, setup_in}
-use Rattle.connection_laws.proofs.Terms.{SessionState, has_session_in, Setup, State, Init, HasValidIds, IsAskAnswered}
-use Rattle.connection_laws.proofs.Terms.{Stage, Entered, Course, StationRequest, FilmPlay, plays_begun, play_by}
-use Rattle.connection_laws.proofs.Terms.{plays_of, AreAnswers, IsMessage}
+use Rattle.std.proofs.Common.{true, None, is_some, inl, inr, ◌+◌, ◌≤◌, ◌≡◌, ℕ, zero, suc, ◌<◌, ◌^◌, List, [], ◌∷◌, ◌++◌}
+use Rattle.std.proofs.Common.{length, get_or, refl, sym, ap, subst, ◌∙◌, arith}
+use Rattle.connection_laws.proofs.Terms.{play_text, setup_text, setup_in, SessionState, has_session_in, State, Init}
+use Rattle.connection_laws.proofs.Terms.{HasValidIds, IsAskAnswered, Stage, Entered, Course, StationRequest, FilmPlay}
+use Rattle.connection_laws.proofs.Terms.{plays_begun, play_by, plays_of, AreAnswers, IsMessage}
 use Rattle.rtsp_text.proofs.MessageUniqueness.{request_once}
 use Rattle.session.specs.declared.commands.Ask.TheVariants.{Reply}
 use Rattle.session_laws.proofs.CompleteReplyLemmas.{replies_whole}
@@ -20,11 +19,9 @@ use Rattle.connection_laws.proofs.SetupOnly.{reply_same, setup_asked, NonePlayed
 use Rattle.session_laws.proofs.PlayInReadyLemmas.{play_heard}
 use Rattle.session.proofs.InitialStateLemmas.{heard_by}
 use Rattle.connection_laws.proofs.ClientSetups.{setup_is, Beginning}
-use Rattle.session_laws.proofs.SetupLemmas.{IsSetupRequest}
 use Rattle.connection_laws.proofs.RequestEffects.{Begins, Ends, Starts, Stays, TurnsAs, begun_is, turns_as}
 use Rattle.connection_laws.proofs.CompleteReplies.{AreTeardowns, AreWhole, admitted_from, answered_named, id_printed}
 use Rattle.connection_laws.proofs.CompleteReplies.{play_room, setup_room, TornFrom, torn_back, named_as, own_reply}
-use Rattle.connection_laws.proofs.CompleteReplies.{IsOwnReply}
 use Rattle.connection_laws.proofs.FirstPlays.{IsWished, wished_play}
 use Rattle.connection_laws.proofs.FilmReplies.{IsFilmAnswer, IsPlayBegun as IsPlayBegunAt, play_begun as play_begun_at}
 use Rattle.connection_laws.proofs.ReplyReadings.{IsSetupRead, setup_read}
@@ -87,8 +84,7 @@ has_setup _ = refl
 
 ready_still : (old new : SessionState) (n : ℕ) → setup_in new.state ≡ setup_in old.state → IsReadyFor n new
     → IsReadyFor n old
-ready_still old new zero same ready =
-    has_setup old.state ∙ (ap (λ (o : Option Setup). is_some o) (sym same) ∙ (sym (has_setup new.state) ∙ ready))
+ready_still old new zero same ready = cc (has_setup old.state, same, has_setup new.state, ready)
 ready_still old new (suc n) same ready = tt
 
 fresh_still : (old new : SessionState) (ahead : List (List ℕ)) → setup_in new.state ≡ setup_in old.state
@@ -118,8 +114,7 @@ pub record Leads (b : Beginning) (out : Outlook) (s : SessionState) (later : Pie
 pub setup_no_play : (b : Beginning) {message : List ℕ} → message ≡ setup_text b.wish → IsNoPlay message
 setup_no_play b {message} is = λ request read method.
     let setup = rw (← is) at (setup_is b) in
-    let same = request_once setup.read read in
-    omega (arith, ap (λ name. get_or name 0 0) (same.method_is ∙ method))
+    omega (arith, ap (λ name. get_or name 0 0) ((request_once setup.read read).method_is ∙ method))
 
 -- a play is the one that is to come, with those after it
 record IsPlayBegun (out : Outlook) (mine : FilmPlay) (later : List StationRequest) : Type 0 where
@@ -188,7 +183,7 @@ module _ {b : Beginning} {out : Outlook} (taken : Taken b out) where
   play_first is =
       let at : message ≡ play_text b.wish b.session = cc is.requests_are in
       let rest : later.requests ≡ out.last = cc is.requests_are in
-      let none = leads.none (request_stands request is.waits.stands) (subst AreNoPlays (sym rest) out.last_are) in
+      let none = leads.none (request_stands request is.waits.stands) (rw rest out.last_are) in
       (record { waits = is.waits; message_is = at; none = none; plays = is.plays }, rest)
 
   play_walk : IsAhead b out old.session [] (from_taken taken) → IsPlayedWhole b out old.session 0 (from_taken taken)
@@ -219,7 +214,7 @@ module _ {b : Beginning} {out : Outlook} (taken : Taken b out) where
       let reply : heard.ask ≡ Reply = (setup_asked request at waits).0 in
       let same : replied.answered ≡ heard.asking =
       reply_same heard.asking heard.ask outcome replied.answered reply heard.answered in
-      let own = own_reply (answers_as heard.ask outcome heard.answered) (subst IsOwnReply (sym reply) tt) in
+      let own = own_reply (answers_as heard.ask outcome heard.answered) (rw reply tt) in
       let whole = own.whole (replies_whole old.session message heard.ask heard.asking named
       (setup_room b at) heard.hears) in (
         whole,
@@ -288,7 +283,7 @@ leads_back b out = record {
           fresh = fresh_still old.session opened.session ahead same.setup is.fresh;
           requests_are = is.requests_are;
           teardowns = is.teardowns;
-          plays = sym (ap (λ l. l ++ plays_of later.askings) (comes_none comes later.askings)) ∙ is.plays;
+          plays = cc (comes_none comes later.askings, is.plays);
         }) in
         let one = rest.one in
         record {

@@ -55,9 +55,8 @@ pub all_past : (xs ys : List (List ℕ)) (c : ℕ) → length (framed_bytes xs) 
 all_past [] ys c past = let same : c - 0 ≡ c = omega arith in (rw same (omega arith), rw same)
 all_past (x ∷ xs) ys c past =
     let sum = length-append x (framed_bytes xs) in
-    let long : length x ≤ c = omega (arith, past, sum) in
     let rest = all_past xs ys (c - length x) (omega (arith, past, sum)) in
-    let one = at_more x (xs ++ ys) c long in
+    let one = at_more x (xs ++ ys) c (omega (arith, past, sum)) in
     let same : c - length x - length (framed_bytes xs) ≡ c - length (framed_bytes (x ∷ xs)) = omega (arith, sum) in
     (omega (arith, one.0, rest.0, ap (λ n. count_ended n ys) same), cc (one.1, rest.1, same))
 

@@ -1,8 +1,8 @@
 -- What a client reads in the reply to PLAY that a server writes.
-use Rattle.std.proofs.Common.{◌≡◌, ℕ, zero, suc, ◌+◌, ◌-◌, ◌*◌, ◌/◌, ◌%◌, ◌^◌, ◌<◌, ◌≤◌, ◌&&◌, ◌==◌, Bool, true, false}
-use Rattle.std.proofs.Common.{not, nat_lt, nat_le, List, [], ◌∷◌, ◌++◌, All, codes, decimal, length, get_or, take, drop}
+use Rattle.std.proofs.Common.{◌≡◌, ℕ, zero, suc, ◌+◌, ◌-◌, ◌*◌, ◌/◌, ◌%◌, ◌^◌, ◌<◌, ◌≤◌, ◌&&◌, ◌==◌, Bool, true, not}
+use Rattle.std.proofs.Common.{nat_lt, nat_le, List, [], ◌∷◌, ◌++◌, All, codes, decimal, length, get_or, take, drop}
 use Rattle.std.proofs.Common.{Some, None, refl, sym, ap, subst, ◌∙◌, append_assoc, arith, inl, inr, rules}
-use Rattle.std.specs.Prelude.{option_map, option_and_then}
+use Rattle.std.specs.Prelude.{option_and_then}
 use Rattle.std.specs.Int.{div_ceil}
 use Rattle.std.proofs.lemmas.Bool.{cases_lt, cond-true, eq-eqb, eqb-true, ltb-true, le-leb}
 use Rattle.std.proofs.lemmas.Grind.{div_ceil_times}
@@ -11,7 +11,7 @@ use Rattle.std.proofs.lemmas.List.{append-nil, length-append, get_or_append_left
 use Rattle.std.proofs.Math.Nat.{mul-le-mul_right}
 use Rattle.connection_laws.proofs.Terms.{Film, read_after, picture_time, length_ms, field, joined_parts, play_fields}
 use Rattle.connection_laws.proofs.Terms.{IsPlayRead, seconds_text, units_until, IsMessageLength, header_value, Field}
-use Rattle.connection_laws.proofs.Terms.{IsPlain, all_fields, session_id, IsAnswer}
+use Rattle.connection_laws.proofs.Terms.{IsPlain, all_fields, IsAnswer}
 use Rattle.mpeg_scan.proofs.FilmBoundLemmas.{film-rate}
 use Rattle.rtsp_replies.specs.Replies.{play_text}
 use Rattle.plan_cert.proofs.DecimalLemmas.{no_leading_zero}
@@ -46,10 +46,11 @@ three a b c la lb lc = search rules
 seconds_is : (ms : ℕ)
     → seconds_text ms ≡ decimal (ms / 1000) ++ 46 ∷ (48 + ms / 100 % 10) ∷ (48 + ms / 10 % 10) ∷ (48 + ms % 10) ∷ []
 seconds_is ms =
-    let one : decimal (ms / 100 % 10) ≡ (48 + ms / 100 % 10) ∷ [] = decimal_digit (ms / 100 % 10) (omega arith) in
-    let two : decimal (ms / 10 % 10) ≡ (48 + ms / 10 % 10) ∷ [] = decimal_digit (ms / 10 % 10) (omega arith) in
-    let three_ : decimal (ms % 10) ≡ (48 + ms % 10) ∷ [] = decimal_digit (ms % 10) (omega arith) in
-    rw (one, two, three_) (simp append_assoc)
+    rw (
+      decimal_digit (ms / 100 % 10) (omega arith),
+      decimal_digit (ms / 10 % 10) (omega arith),
+      decimal_digit (ms % 10) (omega arith),
+    ) (simp append_assoc)
 
 -- a first zero of more than one digit
 no_zero : (long zero_ : Bool) → (long ≡ true → zero_ ≡ true → ⊥) → not (long && zero_) ≡ true
@@ -90,8 +91,8 @@ point_there {n} {digits} point =
     ) in
     let at : length text - 4 ≡ length s = omega (arith, size) in
     let dot : get_or text (length text - 4) 0 ≡ 46 =
-    ap (λ k. get_or text k 0) at ∙ (get_or-append_right s tail (length s) (length s) 0 refl (omega arith)
-    ∙ ap (λ k. get_or tail k 0) (let z : length s - length s ≡ 0 = omega arith in z)) in
+    rw (at, get_or-append_right s tail (length s) (length s) 0 refl (omega arith))
+    (rw ((let z : length s - length s ≡ 0 = omega arith in z))) in
     let front : get_or text 0 0 ≡ get_or (decimal n) 0 0 = rw (get_or_append_left s tail 0 0 some, point.seconds_are) in
     let bare : not (nat_lt 5 (length text) && (get_or text 0 0 == 48)) ≡ true =
     no_zero (nat_lt 5 (length text)) (get_or text 0 0 == 48) (λ long zero_.
@@ -117,11 +118,9 @@ point_read {n} {digits} point =
     let seconds : take (length text - 4) text ≡ decimal n =
     ap (λ k. take k text) at ∙ (take_at s (46 ∷ last) (length s) refl ∙ point.seconds_are) in
     let after : drop (length text - 3) text ≡ last =
-    ap (λ k. drop k text) at3 ∙ (ap (λ l. drop (length s + 1) l) (sym (append_assoc s (46 ∷ []) last))
-    ∙ drop_at (s ++ 46 ∷ []) last (length s + 1) (length-append s (46 ∷ []))) in
+    cc (at3, append_assoc s (46 ∷ []) last, drop_at (s ++ 46 ∷ []) last (length s + 1) (length-append s (46 ∷ []))) in
     let read : milliseconds (decimal n) last ≡ Some (n * 1000 + (a * 100 + b * 10 + c)) =
-    ap (λ o. option_and_then (λ t. option_map (λ f. t * 1000 + f) (number_of last)) o) (decimal_read n point.small)
-    ∙ ap (λ o. option_map (λ f. n * 1000 + f) o) (three a b c la lb lc) in
+    cc (decimal_read n point.small, three a b c la lb lc) in
     cond-true (has_point text) (milliseconds (take (length text - 4) text) (drop (length text - 3) text)) None
     (point_there point)
     ∙ (ap (λ l. milliseconds l (drop (length text - 3) text)) seconds ∙ (ap (milliseconds (decimal n)) after ∙ read))
@@ -193,7 +192,7 @@ read_reply {message} number fields small size plain is =
       answer = record {
         phrase = phrase 200;
         line = back.reply.line;
-        sequence = ap (λ v. option_and_then number_of v) (value (codes "CSeq")) ∙ decimal_read number small;
+        sequence = cc (value (codes "CSeq"), decimal_read number small);
       };
       values = value;
     }
@@ -210,8 +209,8 @@ named_read info numbers size plain is =
     let read = read_reply sequence fields small size plain is in
     record {
       answer = read.answer;
-      session = ap (λ v. option_map session_id v) (read.values (codes "Session"));
-      range = ap (λ v. option_and_then range_end v) (read.values (codes "Range")) ∙ range_read end_ms short;
+      session = cc (read.values (codes "Session"));
+      range = cc (read.values (codes "Range"), range_read end_ms short);
       start = rw (read.values (codes "x-Start"), start_read slots some few);
     }
   where
@@ -219,7 +218,7 @@ named_read info numbers size plain is =
 
 -- no time before it
 zero_text : seconds_text 0 ≡ codes "0.000"
-zero_text = seconds_is 0 ∙ ap (λ d. d ++ 46 ∷ 48 ∷ 48 ∷ 48 ∷ []) (decimal_digit 0 (omega arith))
+zero_text = cc (seconds_is 0, decimal_digit 0 (omega arith))
 
 range_text : (end_ms : ℕ) → joined_parts (codes "npt=" ∷ seconds_text 0 ∷ codes "-" ∷ seconds_text end_ms ∷ [])
     ≡ codes "npt=0.000-" ++ seconds_text end_ms

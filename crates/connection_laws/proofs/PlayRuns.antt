@@ -1,17 +1,14 @@
 -- The plays of a course send its runs in order.
-use Rattle.std.proofs.Common.{◌≡◌, ℕ, ◌+◌, ◌-◌, ◌%◌, ◌≤◌, ◌⊎◌, ◌&&◌, ◌++◌, if◌then◌else◌, Bool, true, false, List, ◌∷◌}
-use Rattle.std.proofs.Common.{Option, Some, None, slice_get, slice_index, add_assoc, refl, sym, ap, subst, ◌∙◌, inl}
-use Rattle.std.proofs.Common.{inr, arith, []}
-use Rattle.std.proofs.lemmas.Bool.{true≢false}
+use Rattle.std.proofs.Common.{◌≡◌, ℕ, ◌+◌, ◌-◌, ◌≤◌, ◌⊎◌, ◌&&◌, ◌++◌, if◌then◌else◌, Bool, true, false, List, ◌∷◌}
+use Rattle.std.proofs.Common.{Option, Some, None, slice_get, refl, sym, ap, subst, ◌∙◌, inl, inr, arith, []}
 use Rattle.std.proofs.lemmas.List.{append_assoc, append-nil}
-use Rattle.connection_laws.proofs.Terms.{total_bytes, Stored, FramedRun, Run, Identity, PlacedEntry, AfterHalt, Done}
-use Rattle.connection_laws.proofs.Terms.{Awaited, Nothing, Play, Halt, Counts, Setup, State, Init, Ready, Playing}
-use Rattle.connection_laws.proofs.Terms.{Stopping, StreamSource, IsFilmAt, identity_of, after_admission, after_halt}
-use Rattle.connection_laws.proofs.Terms.{SessionState, after_slot, can_reply, due_state, is_between, sent_due}
-use Rattle.connection_laws.proofs.Terms.{sent_reply, sent_slot, stepped_in, after_stop, Outcome, Entered, SentPart}
-use Rattle.connection_laws.proofs.Terms.{Stage, Unasked, Course, asked_by, askings_of, course_plays, FilmPlay}
-use Rattle.connection_laws.proofs.Terms.{StationRequest, Asks, kept_by, kept_in, kept_with, play_by, plays_of, look_in}
-use Rattle.connection_laws.proofs.Terms.{Round, Admitted}
+use Rattle.connection_laws.proofs.Terms.{total_bytes, Stored, FramedRun, Run, PlacedEntry, AfterHalt, Done, Awaited}
+use Rattle.connection_laws.proofs.Terms.{Nothing, Play, Halt, Counts, Setup, State, Init, Ready, Playing, Stopping}
+use Rattle.connection_laws.proofs.Terms.{StreamSource, IsFilmAt, identity_of, after_admission, after_halt, SessionState}
+use Rattle.connection_laws.proofs.Terms.{after_slot, can_reply, due_state, is_between, sent_due, sent_reply, sent_slot}
+use Rattle.connection_laws.proofs.Terms.{stepped_in, after_stop, Outcome, Entered, SentPart, Stage, Unasked, Course}
+use Rattle.connection_laws.proofs.Terms.{asked_by, askings_of, course_plays, FilmPlay, StationRequest, Asks, kept_in}
+use Rattle.connection_laws.proofs.Terms.{kept_with, play_by, plays_of, look_in, Round, Admitted}
 use Rattle.connection_laws.proofs.CourseSteps.{Stands, IsKeptStanding, slot_asks, all_kept, Finished, Quiet, Ended}
 use Rattle.connection_laws.proofs.CourseSteps.{finish_by}
 use Rattle.film_frames.specs.FramedRuns.{frames_before, octets_before}
@@ -141,8 +138,7 @@ module _ (words : List ℕ) where
   leads_then : {a b c : SessionState} {made more : List StationRequest} → Leads a b made → Leads b c more
       → Leads a c (made ++ more)
   leads_then {a} {made} {more} one two = record {
-    on = λ later follows. subst (Follows a) (sym (append_assoc made more later))
-        (one.on (more ++ later) (two.on later follows));
+    on = λ later follows. rw (append_assoc made more later) (one.on (more ++ later) (two.on later follows));
     looks = omega (arith, two.looks, one.looks, looks_append made more);
   }
 
@@ -164,7 +160,7 @@ module _ (words : List ℕ) where
   same_kept : (at : Standing) (g : ℕ → ℕ) (state : State) → ((k : ℕ) → at.kept k ≡ g k) → IsIn state at
       → IsIn state (record at { kept = g })
   same_kept at g (Playing setup play) same is =
-      subst (λ k. IsUnderWay at.stream setup play.run (play.run.sent + k) at.last) (same (total_bytes play.plan)) is
+      rw (same (total_bytes play.plan)) at is
   same_kept at g _ same is = is
 
   still : {old new : SessionState} (request : StillRequest) → new.looks_left ≡ old.looks_left - look_in request.asked
@@ -254,8 +250,7 @@ module _ (words : List ℕ) where
       (Asks (Halt stop.keep next) (Entered placed) ∷ [])
   halts {placed = placed} stop entry = record {
     on = λ later follows last is. follows last (halt_state (kept_in later) stop placed.place
-        (subst (λ c. IsUnderWay (stream_of s) setup play.run
-        (play.run.sent + kept_by c (kept_in later (total_bytes play.plan))) last) entry.command is));
+        (rw entry.command at is));
     looks = omega arith;
   }
     where
@@ -266,9 +261,7 @@ module _ (words : List ℕ) where
       (moves_none s)
   finishes {s} (Ended {placed = placed} done entry) =
       let stop : Stopped Done = record { s = s; setup = done.setup; play = done.play; keep = done.keep; left = tt } in
-      let L : State → Awaited → Type 0 = λ st a. Leads (record s { state = st; awaited = a })
-      (after_halt (record s { state = st; awaited = a }) placed.place) (Asks a (Entered placed) ∷ []) in
-      rw done.state_is (subst (L (Playing done.setup done.play)) (sym done.asks) (halts stop entry))
+      rw done.state_is (rw done.asks (halts stop entry))
 
   comes_leads : {old opened : Stage} {round : Round} → Stands old.session → ComesAs old round opened
       → Leads old.session opened.session (Asks (asked_by old.session round.event) round.halt ∷ [])
@@ -315,8 +308,8 @@ module _ (words : List ℕ) {base : SessionState} (asked : AskedPlay base) where
   Next last counts run = (play : FilmPlay) → play.before ≡ run.sent
       → SendsNext words last (sending_of stored.film base.source setup counts run) play
 
-  new_next : (last : Option RunPlace) (unsent : (run : Run) × (run.sent ≡ 0)) → IsFresh words (stream_of base) setup last
-      → Next last base.counts unsent.0
+  new_next : (last : Option RunPlace) (unsent : (run : Run) × (run.sent ≡ 0))
+      → IsFresh words (stream_of base) setup last → Next last base.counts unsent.0
   new_next None (run, sent) fresh play before = (before ∙ sent, rw (fresh.1, fresh.0) first_identity)
   new_next (Some last) (run, sent) fresh play before =
       inr (before ∙ sent, rw fresh.counts (later_identity last fresh.before fresh.identity))
@@ -339,14 +332,13 @@ module _ (words : List ℕ) {base : SessionState} (asked : AskedPlay base) where
   resumed_next : (last : Option RunPlace) (run : Run) → IsUnderWay (stream_of base) setup run run.sent last
       → Next last base.counts run
   resumed_next last run rest play before =
-      let sending : FramedRun = sending_of stored.film base.source setup base.counts run in
-      subst (λ l. SendsNext words l sending play) (sym (own_place rest)) (inl (refl, before))
+      rw (own_place rest) (inl (refl, before))
 
   next_run : (last : Option RunPlace) → IsAtRest words paused (stream_of base) setup last
       → IsNextRun base stored setup paused prepared.run prepared.counts → Next last prepared.counts prepared.run
   next_run last rest (inl resumed) =
       rw resumed.counts_are (resumed_next last prepared.run
-      (subst (λ p. IsAtRest words p (stream_of base) setup last) resumed.paused_is rest))
+      (rw resumed.paused_is at rest))
   next_run last rest (inr begun) = rw begun.counts_are (rest_next paused last (prepared.run, begun.none_sent) rest)
 
   -- no TEARDOWN was answered

@@ -1,5 +1,5 @@
 -- The receipts and offers of a connection's report, event by event.
-use Rattle.std.proofs.Common.{◌≡◌, ℕ, ◌++◌, List, [], ◌∷◌, refl, sym, ap, subst, ◌∙◌, map}
+use Rattle.std.proofs.Common.{◌≡◌, ℕ, ◌++◌, List, [], ◌∷◌, refl, sym, ap, ◌∙◌, map}
 use Rattle.std.proofs.lemmas.List.{append_assoc, append-nil, map-append}
 use Rattle.connection_laws.proofs.Terms.{Stored, Answer, PlacedEntry, OfferNote, Settings, after_slot, SessionState}
 use Rattle.connection_laws.proofs.Terms.{AwaitedAnswer, Outcome, Entered, ConnReport, Activity, HasDone}
@@ -66,7 +66,7 @@ logs_kept = record {
   joins = λ a b c xs ys one two.
       let os = map outcome_of xs in
       let ps = map outcome_of ys in
-      subst (λ all. Logs a all c) (sym (map-append outcome_of xs ys)) (
+      rw (map-append outcome_of xs ys) (
         rw (two.0, one.0, joins_parts receipts_in (record { one = receipt_in; none = refl; more = λ x xs. refl }) os ps)
             (rw (append_assoc a.receipts (receipts_in os) (receipts_in ps))),
         rw (two.1, one.1, joins_parts offers_in (record { one = offer_in; none = refl; more = λ x xs. refl }) os ps)

@@ -1,7 +1,7 @@
 -- What a request, a reply and a slot make of what is sent: the film's bytes that are due, and each reply at the first
 -- boundary from what was due when its request was processed.
-use Rattle.std.proofs.Common.{◌≡◌, ℕ, ◌+◌, ◌-◌, ◌≤◌, ◌++◌, if◌then◌else◌, Bool, true, false, min, List, ◌∷◌, Option}
-use Rattle.std.proofs.Common.{Some, None, length, refl, ap, sym, ◌∙◌, subst, inl, arith, []}
+use Rattle.std.proofs.Common.{◌≡◌, ℕ, ◌+◌, ◌-◌, ◌≤◌, if◌then◌else◌, Bool, true, false, min, List, ◌∷◌, Option, Some}
+use Rattle.std.proofs.Common.{None, length, refl, ap, sym, ◌∙◌, subst, inl, arith, []}
 use Rattle.std.proofs.lemmas.Bool.{true≢false}
 use Rattle.connection_laws.proofs.Terms.{IsBoundary, framed_bytes, total_bytes, IsPacerState, PacerState, first_slots}
 use Rattle.connection_laws.proofs.Terms.{next_boundary, stands_at_boundary, after_step, due_by, Awaited, State, Playing}
@@ -14,10 +14,9 @@ use Rattle.connection_laws.proofs.WaitingReplies.{pending_then, LaterSlot, piece
 use Rattle.conn.proofs.ReplyPlacement.{boundary_here}
 use Rattle.pacer.proofs.PacerStateLemmas.{boundary-from}
 use Rattle.conn.proofs.FilmBytes.{sent_through, slot_is, stopped_is}
-use Rattle.connection_laws.specs.Plays.{due_by as all_due}
 use Rattle.connection_laws.proofs.JoinedFilms.{IsOnTime, IsSound, play_with, through_time, IsAtLast}
-use Rattle.connection_laws.proofs.TextPlaces.{AreLater, StandAt, from_lower, later_lower, none_due, text_at, AreSent}
-use Rattle.connection_laws.proofs.TextPlaces.{NextText, ToCome, part_then}
+use Rattle.connection_laws.proofs.TextPlaces.{StandAt, from_lower, later_lower, none_due, text_at, AreSent, NextText}
+use Rattle.connection_laws.proofs.TextPlaces.{ToCome, part_then}
 use Rattle.connection_laws.proofs.Slots.{ended_at, ending_cases, going_sends, waits_after}
 use Rattle.conn.proofs.PlayProgress.{parts_of, state_after_slot}
 use Rattle.connection_laws.proofs.RequestEffects.{Begins, Ends, Ending, Going, Idle, IsStill, Sends, Starts, Stays}
@@ -85,7 +84,7 @@ turn_goes {old} (Stays same still) = record {
   rest = λ askings come on fits.
       (still_goes still (point (sends_in old.state) old.heard None)).rest askings
       (record come { slots = old.heard ∷ come.slots }) on
-      (taken_fits (subst (λ s. Fits (point s old.heard (Some old.heard)) askings come) same fits));
+      (taken_fits (rw same at fits));
 }
 turn_goes (Starts begins) = begins_goes begins
 turn_goes {old} {outcome = outcome} (Ends halts) = record {
@@ -93,12 +92,12 @@ turn_goes {old} {outcome = outcome} (Ends halts) = record {
   rest = λ askings come on fits.
       let p : PacerState = halts.pacing in
       let there : Fits (point (Ending (record p { keep = next_boundary p })) old.heard (Some old.heard)) askings come =
-      subst (λ s. Fits (point s old.heard (Some old.heard)) askings come) halts.sends fits in
+      rw halts.sends at fits in
       let kept : kept_with outcome (kept_in askings (total_bytes p.plan)) ≡ next_boundary p =
       rw (halts.outcome_is, halts.command) in
       rw halts.going (record {
         from = (omega arith, there.from);
-        later = subst (λ ps. AreLater old.heard (ps ++ plays_of askings)) (sym (halts.none askings)) there.later;
+        later = rw (halts.none askings) there.later;
         stand = rw (kept, halts.none askings) there.stand;
       });
 }
@@ -125,11 +124,10 @@ idle_reply : {heard : ℕ} {askings : List StationRequest} {come : ToCome} (text
     → Fits (point Idle heard None) askings come
     → Stand Idle askings (pending_then (Some heard) (part_then (Text text) come))
 idle_reply {heard} {askings} {come} text fits =
-    let none : all_due heard (plays_of askings) ≡ 0 = none_due heard (plays_of askings) fits.later.starts in
     let sent : IsSentAt come.end (plays_of askings) heard (placed_text 0 text) = record {
       next = record {
         boundary = fits.later.begins;
-        after = omega (arith, none);
+        after = omega (arith, none_due heard (plays_of askings) fits.later.starts);
         least = λ other boundary from. omega arith;
       };
       reached = omega arith;
@@ -267,15 +265,15 @@ ends_same false slot p is stands = ap Ending (slot_is true false slot p is stand
 ended_through : {pending : Option ℕ} (s : PlaySlot true true pending) → IsAtLast s.p
     → (sent_through s.now.slot s.p).sent ≡ s.p.keep
 ended_through s last =
-    let through : IsOnTime (sent_through slot p) slot = through_time p heard slot on later in
     let one : PacerState = after_step true slot p in
-    let boundary : IsBoundary p.pieces (p.before + one.sent) = boundary_here one (stopped_is slot p on.pacing) stands in
     let inside : p.before + p.sent ≤ length (framed_bytes p.pieces) =
     omega (arith, on.pacing.whole, on.pacing.most, on.pacing.due, on.pacing.sent) in
-    let next = boundary-from p.pieces (p.before + p.sent) inside in
-    let least : p.before + p.keep ≤ p.before + one.sent =
-    last (p.before + one.sent) boundary (omega (arith, next.after, on.pacing.sent)) in
-    omega (arith, least, through.pacing.due)
+    omega (
+      arith,
+      last (p.before + one.sent) (boundary_here one (stopped_is slot p on.pacing) stands)
+          (omega (arith, (boundary-from p.pieces (p.before + p.sent) inside).after, on.pacing.sent)),
+      (through_time p heard slot on later).pacing.due,
+    )
   where
     open s use {p, now, on, stands}
     open now use {heard, slot, later}

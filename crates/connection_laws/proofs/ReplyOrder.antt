@@ -7,10 +7,9 @@ use Rattle.std.proofs.lemmas.List.{append-nil, append_assoc}
 use Rattle.std.proofs.Math.Seq.{drop-append-add, take-append-add}
 use Rattle.connection_laws.proofs.Terms.{round_parts, rounds_parts, takings_parts, Round, takings_bytes, rounds_bytes}
 use Rattle.connection_laws.proofs.Terms.{Course, course_film, Answered, SentPart, Passed, Stage, ElementStep, Text}
-use Rattle.connection_laws.proofs.Terms.{film_bytes, parts_bytes, Outcome, due_parts, slot_parts, PlacedText}
-use Rattle.connection_laws.proofs.Terms.{placed_texts, insert_texts, text_of, waiting_reply, course_texts}
-use Rattle.connection_laws.proofs.Terms.{course_replies, can_reply, is_between, sent_due, sent_reply, step_bytes}
-use Rattle.connection_laws.proofs.Terms.{stepped_in, SessionState}
+use Rattle.connection_laws.proofs.Terms.{film_bytes, parts_bytes, Outcome, due_parts, PlacedText, placed_texts}
+use Rattle.connection_laws.proofs.Terms.{insert_texts, text_of, waiting_reply, course_texts, course_replies, can_reply}
+use Rattle.connection_laws.proofs.Terms.{is_between, sent_due, sent_reply, step_bytes, stepped_in, SessionState}
 use Rattle.conn.specs.InputSteps.{Film, part_bytes}
 use Rattle.connection_laws.proofs.RequestEffects.{answered_after}
 use Rattle.connection_laws.proofs.CourseSteps.{Stands, IsKeptStanding, film_written_is, all_kept, slot_asks, film_sent}
@@ -43,24 +42,16 @@ woven_front place bytes film (placed ∷ texts) is =
     let n : ℕ = placed.place - (place + length bytes) in
     let far : placed.place - place ≡ length bytes + n = omega (arith, is) in
     let rest : List ℕ = placed.text ++ insert_texts placed.place (drop n film) texts in
-    ap (λ m. take m (bytes ++ film) ++ (placed.text ++ insert_texts placed.place (drop m (bytes ++ film)) texts)) far
-    ∙ ap (λ d. take (length bytes + n) (bytes ++ film) ++ (placed.text ++ insert_texts placed.place d texts))
-    (drop-append-add bytes film n)
-    ∙ ap (λ t. t ++ rest) (take-append-add bytes film n) ∙ append_assoc bytes (take n film) rest
+    cc (far, drop-append-add bytes film n, take-append-add bytes film n, append_assoc bytes (take n film) rest)
 
 pub parts_woven : (place : ℕ) (parts : List SentPart)
     → parts_bytes parts ≡ insert_texts place (film_bytes parts) (placed_texts place parts)
 parts_woven place [] = refl
 parts_woven place (Film bytes ∷ parts) =
     let at : ℕ = place + length bytes in
-    ap (λ bs. bytes ++ bs) (parts_woven at parts)
-    ∙ sym (woven_front place bytes (film_bytes parts) (placed_texts at parts) (places_from at parts))
+    cc (parts_woven at parts, woven_front place bytes (film_bytes parts) (placed_texts at parts) (places_from at parts))
 parts_woven place (Text text ∷ parts) =
-    let film : List ℕ = film_bytes parts in
-    let texts : List PlacedText = placed_texts place parts in
-    let none : 0 ≡ place - place = omega arith in
-    ap (λ bs. text ++ bs) (parts_woven place parts)
-    ∙ ap (λ n. take n film ++ (text ++ insert_texts place (drop n film) texts)) none
+    let none : 0 ≡ place - place = omega arith in cc (parts_woven place parts, none)
 
 -- all bytes of the parts are those of the rounds
 parts_bytes_append : (xs ys : List SentPart) → parts_bytes (xs ++ ys) ≡ parts_bytes xs ++ parts_bytes ys
@@ -70,15 +61,13 @@ takings_sent : (takings : List ElementStep) → takings_bytes takings ≡ parts_
 takings_sent [] = refl
 takings_sent (Passed n ∷ takings) = takings_sent takings
 takings_sent (Answered message outcome parts ∷ takings) =
-    ap (λ bs. parts_bytes parts ++ bs) (takings_sent takings) ∙ sym (parts_bytes_append parts (takings_parts takings))
+    cc (takings_sent takings, parts_bytes_append parts (takings_parts takings))
 
 pub rounds_sent : (rounds : List Round) → rounds_bytes rounds ≡ parts_bytes (rounds_parts rounds)
 rounds_sent [] = refl
 rounds_sent (round ∷ rounds) =
-    ap (λ bs. (parts_bytes round.due ++ bs) ++ rounds_bytes rounds) (takings_sent round.takings)
-    ∙ ap (λ bs. bs ++ rounds_bytes rounds) (sym (parts_bytes_append round.due (takings_parts round.takings)))
-    ∙ ap (λ bs. parts_bytes (round_parts round) ++ bs) (rounds_sent rounds)
-    ∙ sym (parts_bytes_append (round_parts round) (rounds_parts rounds))
+    rw (takings_sent round.takings, ← (parts_bytes_append round.due (takings_parts round.takings)))
+    (rw (rounds_sent rounds, ← (parts_bytes_append (round_parts round) (rounds_parts rounds))))
 
 -- the texts among parts
 abbrev texts_in : List SentPart → List (List ℕ)
@@ -115,12 +104,12 @@ reply_cases false s waits = ap (λ w. if w then s.text ∷ [] else []) waits
 answered_replies : {old new : Stage} (request : AnsweredRequest old new) → Stands old.session
     → Replies old.session (texts_in request.parts) (request.replied.answered.text ∷ []) new.session
 answered_replies {old} request stands =
-    let after = answered_after replied.heard stands.rest in
-    ap (λ (s : Stage). texts_in parts ++ waiting_reply s.session) replied.new_is
-    ∙ ap (λ ps. texts_in ps
-    ++ waiting_reply (if can_reply replied.answered then sent_reply replied.answered else replied.answered))
-    replied.parts_are ∙ reply_cases (can_reply replied.answered) replied.answered after.waits
-    ∙ ap (λ ts. ts ++ replied.answered.text ∷ []) (sym (waits_none old.session replied.next.replied))
+    let after = answered_after replied.heard stands.rest in cc (
+      replied.new_is,
+      replied.parts_are,
+      reply_cases (can_reply replied.answered) replied.answered after.waits,
+      waits_none old.session replied.next.replied,
+    )
   where
     open request use {outcome, parts, replied}
 
@@ -157,8 +146,7 @@ comes_replies {old} BytesCame stands = waiting_same old.session old.session refl
 comes_replies {old} (SlotCame {slot = slot} finish) stands =
     let to = slot_to old.session slot in
     let finished = finish_by (slot_asks to stands.rest) refl finish in
-    ap (λ ts. texts_in (slot_parts old.session slot) ++ ts) (finished_waiting finished) ∙ sent_texts to
-    ∙ sym (append-nil (waiting_reply old.session))
+    cc (finished_waiting finished, sent_texts to, append-nil (waiting_reply old.session))
 
 abbrev RepliesOn : SessionState → Piece → SessionState → Type 0
 RepliesOn old piece new = Replies old (texts_in piece.parts) piece.replies new
@@ -186,8 +174,5 @@ replies_in_order course = rw (texts_placed 0 (rounds_parts course.rounds), all_k
 
 pub bytes_woven : (course : Course)
     → rounds_bytes course.rounds ≡ insert_texts 0 (course_film course) (course_texts course)
-bytes_woven course =
-    rounds_sent course.rounds ∙ parts_woven 0 (rounds_parts course.rounds)
-    ∙ ap (λ bs. insert_texts 0 bs (course_texts course))
-    (film_sent (begin_of course) course.last course.rounds course.follows
-    ∙ film_written_is course)
+bytes_woven course = rw (rounds_sent course.rounds, parts_woven 0 (rounds_parts course.rounds))
+    (rw (film_sent (begin_of course) course.last course.rounds course.follows, film_written_is course))

@@ -88,8 +88,7 @@ digit_printed k inside =
     elim (cases_Bool (is_url_byte (get_or lower_digits k 0))) [
       | inl good ↦ good
       | inr bad ↦
-          let all : list_all is_url_byte lower_digits ≡ true = refl in
-          absurd (let wrong : true ≡ false = sym all ∙ list_all_at is_url_byte lower_digits k 0 inside bad in cc)
+          absurd (let wrong : true ≡ false = sym refl ∙ list_all_at is_url_byte lower_digits k 0 inside bad in cc)
     ]
 
 abbrev AreBytes : List ℕ → Type 0
@@ -100,12 +99,11 @@ printed_hex : (bytes : List ℕ) → AreBytes bytes → IsPrinted (encode_lower 
 unfolding encode_with
 printed_hex [] are = refl
 printed_hex (byte ∷ bytes) are =
-    let high = digit_printed (byte / 16) (omega (arith, are.0)) in
-    let low = digit_printed (byte % 16) (omega arith) in
     and_from (is_url_byte (get_or lower_digits (byte / 16) 0))
-    (list_all is_url_byte (get_or lower_digits (byte % 16) 0 ∷ encode_lower bytes)) high
+    (list_all is_url_byte (get_or lower_digits (byte % 16) 0 ∷ encode_lower bytes))
+    (digit_printed (byte / 16) (omega (arith, are.0)))
     (and_from (is_url_byte (get_or lower_digits (byte % 16) 0))
-    (list_all is_url_byte (encode_lower bytes)) low (printed_hex bytes are.1))
+    (list_all is_url_byte (encode_lower bytes)) (digit_printed (byte % 16) (omega arith)) (printed_hex bytes are.1))
 
 pub printed_w32 : (n : ℕ) → IsPrinted (encode_lower (to_be_bytes w32 n))
 printed_w32 n = printed_hex (to_be_bytes w32 n) (omega arith, (omega arith, (omega arith, (omega arith, tt))))

@@ -1,5 +1,5 @@
 -- A connection's report has a course.
-use Rattle.std.proofs.Common.{ℕ, ◌++◌, List, [], length, refl, sym, subst}
+use Rattle.std.proofs.Common.{ℕ, ◌++◌, List, [], length, refl}
 use Rattle.std.proofs.lemmas.List.{append-nil}
 use Rattle.std.specs.Prelude.{Option}
 use Rattle.connection_laws.proofs.Terms.{IoEvent, Stored, Settings, Activity, HasDone, Ending, AtElement, InReply}
@@ -20,7 +20,7 @@ record LeadsTo (old : Stage) (rounds : List Round) : Type 0 where
 no_more : (old mid : Stage) (rounds : List Round) → RunsAll old rounds mid → LeadsTo old (rounds ++ [])
 no_more old mid rounds runs = record {
   last = mid;
-  follows = subst (λ rs. IsCourseBetween old rs mid) (sym (append-nil rounds)) (follows_all old mid rounds runs);
+  follows = rw (append-nil rounds) (follows_all old mid rounds runs);
 }
 
 up_to_end : (old mid : Stage) (rounds : List Round) (ending : Ending) (ended : CourseEnd mid ending)

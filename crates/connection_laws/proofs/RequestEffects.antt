@@ -1,7 +1,7 @@
 -- What a request asks and how it is answered, case by case, and what that makes of a session: what is sent of a film,
 -- and the play that begins or ends.
-use Rattle.std.proofs.Common.{◌≡◌, ℕ, Bool, true, List, None, refl, subst, ◌<◌, ◌^◌, if◌then◌else◌, [], ◌∷◌, false}
-use Rattle.std.proofs.Common.{true≢false, sym, ap, ◌∙◌, ◌-◌, arith}
+use Rattle.std.proofs.Common.{◌≡◌, ℕ, Bool, true, List, None, refl, ◌<◌, ◌^◌, if◌then◌else◌, [], ◌∷◌, false, true≢false}
+use Rattle.std.proofs.Common.{sym, ap, ◌∙◌, ◌-◌, arith}
 use Rattle.connection_laws.proofs.Terms.{PlacedEntry, Setup, next_boundary, IsPacerState, PacerState, Segment, Ask}
 use Rattle.connection_laws.proofs.Terms.{AfterHalt, Awaited, Play, Halt, Nothing, Prepared, Init, Ready, Playing}
 use Rattle.connection_laws.proofs.Terms.{Stopping, after_admission, after_full, after_halt, after_look, after_offer}
@@ -118,16 +118,11 @@ answer_of : {old asking new : SessionState} {ask : Ask} {outcome : Outcome} → 
 answer_of {old} {new = new} {outcome = o} (Replies text tearing ask_is is) =
     rw (ask_is, is) (own_answer old text tearing o new)
 answer_of {old} {new = new} {outcome = o} (SetsUp text setup init ask_is is) =
-    rw (ask_is, is) (subst (λ st. Answers o new (record old { state = st }) AskReply
-    (record old { text = text; waits = true; state = Ready setup None })) (sym init)
-    (setup_answer old text setup o new))
+    rw (ask_is, is) (rw init (setup_answer old text setup o new))
 answer_of {old} {new = new} {outcome = o} (AsksPlay play ask_is is) =
-    rw (ask_is, is) (subst (λ st. Answers o new (record old { state = st }) (AskPlay play.prepared.plan)
-    (record old { state = st; awaited = Play play.prepared; text = play.text })) (sym play.ready)
-    (play_answer play o new))
+    rw (ask_is, is) (rw play.ready (play_answer play o new))
 answer_of {old} {new = new} {outcome = o} (Stops halt ask_is is) =
-    rw (ask_is, is) (subst (λ st. Answers o new (record old { state = st }) (AskHalt halt.keep) (at_halt halt))
-    (sym halt.playing) (halt_answer halt o new))
+    rw (ask_is, is) (rw halt.playing (halt_answer halt o new))
 answer_of {old} {new = new} {outcome = o} (AsksLook sequence ask_is is) =
     rw (ask_is, is) (look_answer old sequence o new)
 answer_of {old} {new = new} {outcome = o} (AsksOffer plan offers sequence ask_is is) =
@@ -257,11 +252,10 @@ ends_turn {placed} halt entry =
       number = entry.number;
       going = refl;
       outcome_is = refl;
-      command = entry.command ∙ ap (λ k. HaltCommand entry.number k) keep_is;
+      command = cc (entry.command, keep_is);
       answer = entry.answer_is;
       none = λ later. refl;
-      sends = stopped_sends setup (record play { pacer = record play.pacer { keep = keep } }) next told
-          ∙ ap (λ k. Ending (record play.pacer { keep = k })) keep_is;
+      sends = cc (stopped_sends setup (record play { pacer = record play.pacer { keep = keep } }) next told, keep_is);
     })
   where
     open halt use {setup, play, keep, next, told, keep_is}

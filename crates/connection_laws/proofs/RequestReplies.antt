@@ -1,6 +1,6 @@
 -- What a session replies to a client's SETUP, PLAY and TEARDOWN.
-use Rattle.std.proofs.Common.{◌≡◌, ◌⊎◌, ℕ, ◌^◌, ◌<◌, List, [], ◌++◌, true, codes, string_bytes, Option, Some, None}
-use Rattle.std.proofs.Common.{refl, sym, ap, ap₂, subst, ◌∙◌, arith, inl, inr}
+use Rattle.std.proofs.Common.{◌≡◌, ◌⊎◌, ℕ, ◌^◌, ◌<◌, List, [], ◌++◌, true, codes, string_bytes, Some, None, refl, ap}
+use Rattle.std.proofs.Common.{◌∙◌, arith, inl, inr}
 use Rattle.connection_laws.proofs.Terms.{Stored, Run, header_value, request_head, play_parts, setup_parts}
 use Rattle.connection_laws.proofs.Terms.{teardown_parts, film_url, play_text, setup_text, teardown_text, Play, Prepared}
 use Rattle.connection_laws.proofs.Terms.{Setup, State, Init, Names, length_ms, setup_in, play_fields, session_text}
@@ -11,16 +11,14 @@ use Rattle.rtsp_client.proofs.RequestGrammar.{play-asked, setup-asked, teardown-
 use Rattle.film_streams.specs.Films.{milliseconds_at}
 use Rattle.film_streams.specs.StreamNumbers.{timestamp_at}
 use Rattle.session.specs.Methods.{first_number}
-use Rattle.session.specs.RefusalOrder.{IsOwnSession}
-use Rattle.rtsp_methods.specs.RequiredOptions.{first_of}
 use Rattle.rtsp_replies.specs.Replies.{setup_text as setup_reply}
 use Rattle.session_laws.proofs.ClientReplyLemmas.{play_answered, setup_answered, teardown_answered}
 use Rattle.session_laws.proofs.PlayInReadyLemmas.{PlayStarted}
 use Rattle.session_laws.proofs.SetupLemmas.{HeardCall}
 use Rattle.session.proofs.InitialStateLemmas.{HeardMessage, heard_by}
 use Rattle.connection_laws.proofs.ClientSetups.{range_is, settled_by, Beginning}
-use Rattle.connection_laws.proofs.KeptParts.{IsSameSetup, names_in}
-use Rattle.connection_laws.proofs.SetupOnly.{IsUnbegun, IsWaiting}
+use Rattle.connection_laws.proofs.KeptParts.{IsSameSetup}
+use Rattle.connection_laws.proofs.SetupOnly.{IsWaiting}
 use Rattle.connection_laws.proofs.FirstPlays.{planned_whole}
 use Rattle.connection_laws.proofs.CourseInduction.{AnsweredRequest}
 
@@ -47,7 +45,7 @@ named_still {b} {old} {new} same named =
     record {
       setup = named.setup;
       setup_is = same.setup ∙ named.setup_is;
-      own = subst (IsSession b.session) (sym id) named.own;
+      own = rw id named.own;
       authority = named.authority;
       names = rw films named.names;
     }
@@ -87,8 +85,7 @@ whole_front : (stored : Stored) (run : Run) (front : ℕ → ℕ → List ℕ) �
     ≡ front 0 (length_ms stored.film)
 whole_front stored run front is =
     let first : milliseconds_at stored.film run.from_unit ≡ 0 =
-    ap (λ (r : Run). milliseconds_at stored.film r.from_unit) is ∙ omega arith in
-    ap₂ front first (ap (λ (r : Run). milliseconds_at stored.film r.end_unit) is)
+    ap (λ (r : Run). milliseconds_at stored.film r.from_unit) is ∙ omega arith in cc (first, is)
 
 -- ---- TEARDOWN
 
@@ -121,15 +118,13 @@ pub setup_replied : (b : Beginning) {old new : Stage} (request : AnsweredRequest
     → request.message ≡ setup_text b.wish → AnswersSetup old.session request.replied.heard.asking
 setup_replied b {old} request is =
     let source = old.session.source in
-    let heard = replied.heard in
-    let asked = setup-asked b.wish b.wished b.port in
     let call : HeardCall (codes "SETUP") = record {
-      h = heard_by heard.hears;
+      h = heard_by replied.heard.hears;
       url = film_url b.wish ++ codes "/video";
       sequence = 1;
       head = request_head (setup_parts b.wish);
       body = [];
-      read = rw is asked.read;
+      read = rw is (setup-asked b.wish b.wished b.port).read;
     } in
     elim (setup_answered call) [
       | inl same ↦ inl same
@@ -160,14 +155,13 @@ play_asked b h waits asks is =
     let stored = started.asks.stored in
     let planned = started.planned in
     let name = play.asked.authority.now in
-    let begun = subst (IsUnbegun b.wish b.start.films) play.ready waits.still.unbegun in
+    let begun = rw play.ready at waits.still.unbegun in
     let run : planned.run ≡ whole_run stored = planned_whole (rw (begun.0, range_is b) at told.planned_is) in
     let number = first_number old stored play.setup planned in
     let time = timestamp_at stored.film old.source planned.run.from_unit in
     let F : ℕ → ℕ → List ℕ = λ from to.
     reply_front 200 (Some 2) (play_fields old.id from to name (string_bytes stored.name) number time) in
-    let S : Option (List ℕ) → Type 0 = λ v. IsOwnSession (has_session_in old.state) old.id v ⊥ in
-    let own = subst S (play_session b) told.session in
+    let own = rw (play_session b) at told.session in
     record {
       started = started;
       names = told.names;
@@ -196,7 +190,7 @@ teardown_replied b {old} request is named =
       read = rw is asked.read;
     } in
     let told = teardown_answered call (record {
-      free = ap (λ v. first_of v (header_value head (codes "Proxy-Require"))) its.require ∙ its.proxy;
+      free = cc (its.require, its.proxy);
       session = rw its.session (has_one old.session.state named.setup_is, named.own);
       authority = named.authority;
       setup = named.setup;

@@ -1,24 +1,23 @@
 -- What a client that wishes for a film asks of a connection is played and answered as it wished. The replies to two
 -- requests before a play stand before its film, and those to requests once it was due after it.
 use Rattle.std.proofs.Common.{◌≡◌, ℕ, ◌+◌, ◌<◌, ◌≤◌, List, ◌∷◌, drop, ap, ◌∙◌, arith, inl, ◌++◌, length, sum, get_or}
-use Rattle.std.proofs.Common.{codes, refl, sym, subst, slice_index, ◌^◌, map, []}
+use Rattle.std.proofs.Common.{refl, sym, subst, slice_index, ◌^◌, map, []}
 use Rattle.std.proofs.lemmas.List.{append-nil}
 use Rattle.connection_laws.proofs.Terms.{IsBoundary, framed_bytes, IsMessage, IsAskedFor, AreInRange, AreSentAt}
 use Rattle.connection_laws.proofs.Terms.{IsBoundaryIn, IsSentAt, IsUnsentAt, slots_from, AreAfter, HasPlayedWhole}
-use Rattle.connection_laws.proofs.Terms.{IsWholePlay, film_blocks, playback_of, whole_run, FilmPlay, due_of, PlacedText}
+use Rattle.connection_laws.proofs.Terms.{IsWholePlay, film_blocks, playback_of, whole_run, FilmPlay, PlacedText}
 use Rattle.connection_laws.proofs.Terms.{placed_text, course_replies, course_texts, waiting_reply, text_of, Stored}
-use Rattle.connection_laws.proofs.Terms.{stored_sizes, Identity, teardown_parts, film_url, play_text, setup_text}
-use Rattle.connection_laws.proofs.Terms.{teardown_text, Wish, IsRequest, request_head, IsPrefixOf, Course, course_plays}
-use Rattle.connection_laws.proofs.Terms.{greatest_slot, rounds_input, length_ms, AreAnswers, AreGoodReplies}
+use Rattle.connection_laws.proofs.Terms.{stored_sizes, Identity, play_text, setup_text, teardown_text, Wish, Course}
+use Rattle.connection_laws.proofs.Terms.{course_plays, greatest_slot, AreAnswers, AreGoodReplies}
 use Rattle.connection_laws.specs.ClientRequests.{IsDueBy}
 use Rattle.connection_laws.specs.Plays.{due_by}
-use Rattle.connection_laws.proofs.OnePlay.{AreBefore, IsPlayedWhole, Outlook, setup_no_play, AreRead, course_walk}
+use Rattle.connection_laws.proofs.OnePlay.{AreBefore, IsPlayedWhole, Outlook, setup_no_play, course_walk}
 use Rattle.connection_laws.proofs.CompleteReplies.{AreTeardowns, AreWhole, IsTeardownOf}
 use Rattle.connection_laws.proofs.TextPlaces.{none_due}
 use Rattle.film_run.proofs.PlanLemmas.{sending-keeps}
 use Rattle.rtsp_client.proofs.RequestGrammar.{play-asked, setup-asked, teardown-asked}
 use Rattle.rtsp_text.proofs.MessageUniqueness.{request_once}
-use Rattle.connection_laws.proofs.Requests.{AreFound, joined, requests_front}
+use Rattle.connection_laws.proofs.Requests.{AreFound, requests_front}
 use Rattle.connection_laws.proofs.FilmReading.{run_total}
 use Rattle.connection_laws.proofs.SetupOnly.{AreNoPlays, IsNoPlay, IsWaiting, none_played}
 use Rattle.connection_laws.proofs.ReplyOrder.{replies_in_order}
@@ -27,7 +26,6 @@ use Rattle.connection_laws.proofs.EndToEndMeter.{rest_all}
 use Rattle.connection_laws.proofs.CourseSteps.{replies_sent, first_stands}
 use Rattle.connection_laws.proofs.FirstPlays.{IsWished, WishedFilm}
 use Rattle.connection_laws.proofs.FilmReplies.{IsFilmAnswer}
-use Rattle.connection_laws.proofs.ReplyReadings.{IsPlayAnswer}
 use Rattle.connection_laws.proofs.WatchedFilms.{IsServed}
 use Rattle.connection_laws.proofs.AcceptedMoments.{FilmClauses}
 use Rattle.connection_laws.proofs.CourseInduction.{begin_of, piece_of, rounds_requests}
@@ -50,15 +48,13 @@ none_yet slot play late = none_due slot (play ∷ []) (late, tt)
 sent_first : {play : FilmPlay} {now slot : ℕ} {placed : PlacedText} → play.before ≡ 0 → slot < play.start
     → IsSentAt now (play ∷ []) slot placed → placed ≡ placed_text 0 placed.text
 sent_first {play} {now} {slot} {placed} before late sent =
-    let none = none_yet slot play late in
-    let least = sent.next.least 0 (first_boundary play before) (omega (arith, none)) in
-    let here : placed.place ≡ 0 = omega (arith, least) in ap (λ n. record placed { place = n }) here
+    ap (λ n. record placed { place = n })
+    (omega (arith, sent.next.least 0 (first_boundary play before) (omega (arith, none_yet slot play late))))
 
 never_unsent : {slot : ℕ} (play : FilmPlay) (now : ℕ) → play.before ≡ 0 → slot < play.start
     → IsUnsentAt now (play ∷ []) slot → ⊥
 never_unsent {slot} play now before late unsent =
-    let none = none_yet slot play late in
-    omega (arith, unsent 0 (first_boundary play before) (omega (arith, none)))
+    omega (arith, unsent 0 (first_boundary play before) (omega (arith, none_yet slot play late)))
 
 -- replies to requests that were processed once the film was due
 record AreOnceDue (play : FilmPlay) (now : ℕ) (slots : List ℕ) (texts : List PlacedText) : Type 0 where
@@ -110,8 +106,8 @@ two_first {play} {now} {total} (one ∷ two ∷ slots) (first ∷ second ∷ lat
       first = first.text;
       second = second.text;
       later = later;
-      texts_are = ap (λ t. t ∷ second ∷ later) at_first ∙ ap (λ t. placed_text 0 first.text ∷ t ∷ later) at_second;
-      after = subst (λ n. AreAfter n later) (sym replies.total_is) (after_film slots later rest);
+      texts_are = cc (at_first, at_second);
+      after = rw replies.total_is (after_film slots later rest);
     }
 
 -- TEARDOWN asks for no play
@@ -187,9 +183,8 @@ module _ {wish : Wish} {stored : Stored} {course : Course} (asked : IsAskedFor w
           ((teardown-asked wish session asked.wished asked.port asked.session_is).found, tt),
         ),
       ) in
-      let heard : IsPrefixOf (rounds_input course.rounds) (joined (all_texts beginning_of)) =
-      rw (append-nil (teardown_text wish session)) asked.heard in
-      let its = requests_front course (all_texts beginning_of) found heard in
+      let its = requests_front course (all_texts beginning_of) found
+      (rw (append-nil (teardown_text wish session)) asked.heard) in
       requests_asked beginning_of (rounds_requests course.rounds) its.0 its.1
       (λ none. cc (none_played course none, asked.plays))
 

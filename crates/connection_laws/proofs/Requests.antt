@@ -1,16 +1,16 @@
 -- The requests that were processed are those of the input, in order: where a client's requests came up to a place, the
 -- first of them, each complete.
-use Rattle.std.proofs.Common.{◌≡◌, ◌⊎◌, ℕ, ◌<◌, ◌++◌, ◌||◌, ◌==◌, if◌then◌else◌, Bool, true, false, List, ◌∷◌, Ok, Err}
-use Rattle.std.proofs.Common.{length, take, drop, map, get_or, refl, ap, sym, ◌∙◌, subst, inl, inr, arith, []}
+use Rattle.std.proofs.Common.{◌≡◌, ◌⊎◌, ℕ, ◌<◌, ◌++◌, if◌then◌else◌, Bool, true, false, List, ◌∷◌, Ok, Err, length}
+use Rattle.std.proofs.Common.{take, drop, map, refl, ap, sym, ◌∙◌, subst, inl, inr, arith, []}
 use Rattle.std.proofs.lemmas.List.{append-nil, append_assoc, get_or-take, drop_at, take-append-drop, take_at}
 use Rattle.std.proofs.lemmas.List.{map-append}
 use Rattle.std.specs.Prelude.{⊤}
-use Rattle.connection_laws.proofs.Terms.{IoEvent, HeardBytes, HeardSlot, is_line_end, IsFirst, StartsMessage}
-use Rattle.connection_laws.proofs.Terms.{AreInputElements, IsElementLength, WholeMessage, More, Request, Comes}
-use Rattle.connection_laws.proofs.Terms.{IsStopped, Round, IsPrefixOf, Answered, Outcome, SentPart, Passed, Stage}
-use Rattle.connection_laws.proofs.Terms.{ElementStep, TakesAll, stage, ConnEnd, TornDown, HeadTooLong, BodyTooLong}
-use Rattle.connection_laws.proofs.Terms.{IsCourseBetween, first_stage, Course, Beginning, InputSplit, IsDrained}
-use Rattle.connection_laws.proofs.Terms.{TakesUp, heard_requests_in, heard_requests_taken, bytes_in, rounds_input}
+use Rattle.connection_laws.proofs.Terms.{IoEvent, HeardBytes, HeardSlot, IsFirst, StartsMessage, AreInputElements}
+use Rattle.connection_laws.proofs.Terms.{IsElementLength, WholeMessage, More, Request, Comes, IsStopped, Round}
+use Rattle.connection_laws.proofs.Terms.{IsPrefixOf, Answered, Outcome, SentPart, Passed, Stage, ElementStep, TakesAll}
+use Rattle.connection_laws.proofs.Terms.{stage, ConnEnd, TornDown, HeadTooLong, BodyTooLong, IsCourseBetween}
+use Rattle.connection_laws.proofs.Terms.{first_stage, Course, Beginning, InputSplit, IsDrained, TakesUp}
+use Rattle.connection_laws.proofs.Terms.{heard_requests_in, heard_requests_taken, bytes_in, rounds_input}
 use Rattle.interleave.specs.declared.elements.DemuxFault.TheVariants.{HeadTooLong as LongHead, BodyTooLong as LongBody}
 use Rattle.interleave.proofs.StreamElements.{cut_grows, tells_none, cuts_agree}
 use Rattle.connection_laws.specs.Requests.{AreTaken, AwaitsReply, is_no_request, message_of, requests_in}
@@ -32,16 +32,13 @@ requests_append (x ∷ xs) ys =
 -- a request begins with another byte than CR, LF and `$`
 pub starts_request : (input : List ℕ) (n : ℕ) → StartsMessage input → 0 < n → is_no_request (take n input) ≡ false
 starts_request input n starts some =
-    let same : get_or (take n input) 0 0 ≡ get_or input 0 0 = get_or-take n input 0 0 some in
-    rw (same, starts.1, starts.2)
+    rw (get_or-take n input 0 0 some, starts.1, starts.2)
 
 over_other : (input : List ℕ) (n : ℕ) → IsOver input n → is_no_request (take n input) ≡ true
 over_other input n (AnEnd one some end) =
-    let same : get_or (take n input) 0 0 ≡ get_or input 0 0 = get_or-take n input 0 0 (omega (arith, one)) in
-    rw (same, end)
+    rw (get_or-take n input 0 0 (omega (arith, one)), end)
 over_other input n (ABlock starts four size inside) =
-    let same : get_or (take n input) 0 0 ≡ 36 = get_or-take n input 0 0 (omega (arith, size)) ∙ starts.1 in
-    rw same
+    rw (get_or-take n input 0 0 (omega (arith, size)) ∙ starts.1)
 
 -- bytes are split into elements with these requests, and into what waits
 pub record CutsAll (heard : List ℕ) (new : Stage) (messages : List (List ℕ)) : Type 0 where
@@ -56,7 +53,7 @@ first_cut : {input : List ℕ} {new : Stage} {messages : List (List ℕ)} (n : �
 first_cut {input} n element rest = record {
   elements = take n input ∷ rest.elements;
   cut = (n, (element, refl, rest.cut));
-  requests = ap (λ rs. if is_no_request (take n input) then rs else take n input ∷ rs) rest.requests;
+  requests = cc rest.requests;
 }
 
 -- elements that are processed are those of the input
@@ -66,16 +63,14 @@ goes_cut old new [] goes = record { elements = []; cut = ap (λ (s : Stage). s.i
 goes_cut old new (Over n ∷ elements) goes =
     let passing = goes.1.0 in
     let ms = map message_of (exchange_of elements).hearings in
-    subst (λ b. CutsAll old.input new (if b then ms else take n old.input ∷ ms)) (over_other old.input n passing.over)
-    (first_cut n (over_element old.input n passing.over)
+    rw (over_other old.input n passing.over) at (first_cut n (over_element old.input n passing.over)
     (subst (λ (s : Stage). CutsAll s.input new ms) passing.new_is (goes_cut goes.0 new elements goes.1.1)))
 goes_cut old new (RequestElement turn ∷ elements) goes =
     let next = goes.1.0.next in
     let n : ℕ = length turn.heard.message in
     let ms = map message_of (exchange_of elements).hearings in
     let some : 0 < n = omega (arith, next.first.1.total_is, next.first.1.is_head.some) in
-    subst (λ m. CutsAll old.input new (m ∷ ms)) (sym next.message_is)
-    (subst (λ b. CutsAll old.input new (if b then ms else take n old.input ∷ ms))
+    rw next.message_is (subst (λ b. CutsAll old.input new (if b then ms else take n old.input ∷ ms))
     (starts_request old.input n next.first.0 some)
     (first_cut n (WholeMessage next.first.0 next.first.1 next.first.2)
     (subst (λ (s : Stage). CutsAll s.input new ms) goes.1.0.new_is (goes_cut goes.0 new elements goes.1.1))))
@@ -89,7 +84,7 @@ record LaterCut : Type 0 where
 
 cut_then : (input : List ℕ) (ps : List (List ℕ)) (later : LaterCut) → AreInputElements input ps later.input →
     AreInputElements input (ps ++ later.elements) later.rest
-cut_then input [] later cut = subst (λ w. AreInputElements w later.elements later.rest) (sym cut) later.cut
+cut_then input [] later cut = rw cut later.cut
 cut_then input (p ∷ ps) later cut = (cut.0, (cut.1.0, cut.1.1, cut_then (drop cut.0 input) ps later cut.1.2))
 
 comes_input : (old opened : Stage) (event : IoEvent) (due : List SentPart) (halt : Outcome)
@@ -131,7 +126,7 @@ pub follows_cut : {new : Stage} {messages : List (List ℕ)} (old : Stage) (roun
     CutsAll (heard_cut.heard ++ rounds_input rounds) new (messages ++ rounds_requests rounds)
 follows_cut {messages = messages} old [] follows heard_cut =
     rw (append-nil heard_cut.heard, append-nil messages)
-    (subst (λ s. CutsAll heard_cut.heard s messages) (sym follows) heard_cut.cuts)
+    (rw follows heard_cut.cuts)
 follows_cut {new} {messages} old (round ∷ rounds) follows heard_cut =
     let mid : Stage = follows.0 in
     let runs = follows.1.0 in
@@ -185,7 +180,7 @@ done_rest stage (inl idle) = idle_rest stage idle.waits
 done_rest stage (inr stopped) = stopped_rest stage stopped.0 stopped.1
 
 last_done : (old new : Stage) (rounds : List Round) → IsDrained old → TakesUp old rounds new → IsDrained new
-last_done old new [] done takes = subst IsDrained (sym takes) done
+last_done old new [] done takes = rw takes done
 last_done old new (round ∷ rounds) done takes = last_done takes.0 new rounds takes.1.1 takes.1.2
 
 pub requests_taken : (beginning : Beginning) (cutting : InputSplit beginning) → AreTaken beginning cutting
@@ -221,7 +216,7 @@ texts_cut (text ∷ texts) found =
       (
         WholeMessage first.0 first.1 first.2,
         sym (take_at text (joined texts) (length text) refl),
-        subst (λ w. AreInputElements w texts []) (sym rest) (texts_cut texts found.1),
+        rw rest (texts_cut texts found.1),
       ),
     )
 
@@ -247,7 +242,7 @@ front_cut {input} texts elements rest found front cut =
     let all = joined texts in
     let later = drop front.0 all in
     let whole : input ++ later ≡ all = ap (λ l. l ++ later) front.1.1 ∙ take-append-drop front.0 all in
-    let grown = subst (λ w. AreInputElements w elements (rest ++ later)) whole (cut_grows input later elements rest cut)
+    let grown = rw whole at (cut_grows input later elements rest cut)
     in
     elim (cuts_agree (record { one = grown; other = texts_cut texts found })) [
       | inl goes ↦ (goes.0, goes.1.0)
@@ -262,8 +257,7 @@ pub requests_front : (course : Course) (texts : List (List ℕ)) → AreFound te
     → IsPrefixOf (rounds_input course.rounds) (joined texts)
     → (more : List (List ℕ)) × (texts ≡ rounds_requests course.rounds ++ more)
 requests_front course texts found front =
-    let first = begin_of course in
-    let cuts = follows_cut first course.rounds course.follows
+    let cuts = follows_cut (begin_of course) course.rounds course.follows
     (record { heard = []; cuts = record { elements = []; cut = refl; requests = refl } }) in
     let its = front_cut {input = rounds_input course.rounds} texts cuts.elements course.last.input found front
     cuts.cut in (

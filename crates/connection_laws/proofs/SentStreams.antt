@@ -1,7 +1,7 @@
 -- What a connection sent as a stream of two replies, a film's blocks, and later replies.
 use Rattle.std.specs.Prelude.{⊤}
 use Rattle.std.proofs.Common.{◌≡◌, ℕ, ◌+◌, ◌-◌, ◌<◌, ◌≤◌, max, min, List, [], ◌∷◌, ◌++◌, length, take, drop, map, refl}
-use Rattle.std.proofs.Common.{sym, ap, subst, ◌∙◌, arith, inl, inr}
+use Rattle.std.proofs.Common.{sym, ap, ◌∙◌, arith, inl, inr}
 use Rattle.std.proofs.lemmas.Bool.{cases_lt}
 use Rattle.std.proofs.lemmas.List.{append-nil, drop_all, length-append, length-take, take_all}
 use Rattle.std.proofs.Math.Seq.{drop-nil, take-append-add, take-nil}
@@ -58,9 +58,8 @@ pub texts_parts : (place : ℕ) (xs ys : List SentPart)
 texts_parts place [] ys = ap (λ n. placed_texts n ys) (let e : place ≡ place + 0 = omega arith in e)
 texts_parts place (Film bytes ∷ xs) ys =
     texts_parts (place + length bytes) xs ys ∙ ap (λ n. placed_texts (place + length bytes) xs ++ placed_texts n ys)
-    (let e : place + length bytes + length (film_bytes xs) ≡ place + length (bytes ++ film_bytes xs) =
-    omega (arith, length-append bytes (film_bytes xs)) in e)
-texts_parts place (Text text ∷ xs) ys = ap (λ l. placed_text place text ∷ l) (texts_parts place xs ys)
+    ((omega (arith, length-append bytes (film_bytes xs))))
+texts_parts place (Text text ∷ xs) ys = cc (texts_parts place xs ys)
 
 -- ---- how much film there is in a prefix
 
@@ -107,8 +106,7 @@ counted_by {later} {rest} {total} texts_first (a ∷ b ∷ c ∷ texts) all with
     let third : later ≡ c ∷ (texts ++ rest) = cc in
     let one : length a.text ≡ length texts_first.setup = ap (λ (p : PlacedText). length p.text) first in
     let two : length b.text ≡ length texts_first.played = ap (λ (p : PlacedText). length p.text) second in
-    let P : List PlacedText → Type 0 = λ l. AreAfter total l in
-    let past = subst P third later_texts.after in
+    let past = rw third at later_texts.after in
     record { is = λ much. omega (arith, one, two, later_texts.few, past.0, within.1.1.1.0) }
 
 -- ---- all of it, as a prefix of the stream
@@ -121,8 +119,7 @@ woven_texts : (from : ℕ) (film : List ℕ) (texts : List PlacedText) → film 
 woven_texts from film [] none = none
 woven_texts from film (placed ∷ texts) none =
     let n = placed.place - from in
-    ap (λ l. l ++ (placed.text ++ insert_texts placed.place (drop n film) texts)) (ap (take n) none ∙ take-nil n)
-    ∙ ap (λ l. placed.text ++ l) (woven_texts placed.place (drop n film) texts (ap (drop n) none ∙ drop-nil n))
+    cc (none, take-nil n, woven_texts placed.place (drop n film) texts (ap (drop n) none ∙ drop-nil n))
 
 pub record IsFrontOf (bytes all : List ℕ) : Type 0 where
   pub count : ℕ
@@ -133,11 +130,10 @@ front_same film blocks n is =
     let size : length film ≡ min n (length blocks) = ap (λ (l : List ℕ). length l) is ∙ length-take n blocks in
     elim (cases_lt n (length blocks)) [
       | inl less ↦ is
-          ∙ (ap (λ k. take k blocks) (let e : n ≡ length film = omega (arith, size, less) in e)
+          ∙ (ap (λ k. take k blocks) ((omega (arith, size, less)))
           ∙ ap (λ l. take (length film) l) (sym (append-nil blocks)))
       | inr more ↦
-          let all : film ≡ blocks = is ∙ take_all n blocks more in
-          all ∙ (sym (take_all (length film) blocks (omega (arith, size, more)))
+          (is ∙ take_all n blocks more) ∙ (sym (take_all (length film) blocks (omega (arith, size, more)))
           ∙ ap (λ l. take (length film) l) (sym (append-nil blocks)))
     ]
 
@@ -183,8 +179,7 @@ all_woven front setup played later after within =
     let all = blocks ++ framed_bytes (map text_of later) in
     let both : setup ++ (played ++ take rest.count all)
     ≡ take (length setup + (length played + rest.count)) (setup ++ (played ++ all)) =
-    ap (λ l. setup ++ l) (sym (take-append-add played all rest.count))
-    ∙ sym (take-append-add setup (played ++ all) (length played + rest.count)) in
+    cc (take-append-add played all rest.count, take-append-add setup (played ++ all) (length played + rest.count)) in
     record { count = length setup + (length played + rest.count); is = ap (λ l. setup ++ (played ++ l)) rest.is ∙ both }
   where
     open front use {blocks}
@@ -227,10 +222,8 @@ pub rounds_sent_are : (rounds : List Round) → AreEvents rounds → sent_bytes 
 rounds_sent_are [] are = refl
 rounds_sent_are (round ∷ rounds) are =
     let sent = sends (round_bytes round) in
-    event_sent round.event (sent ++ rounds_doings rounds) are.0
-    ∙ (sent_append sent (rounds_doings rounds)
-    ∙ (ap (λ l. l ++ sent_bytes (rounds_doings rounds)) (sent_sends (round_bytes round))
-    ∙ ap (λ l. round_bytes round ++ l) (rounds_sent_are rounds are.1)))
+    rw (event_sent round.event (sent ++ rounds_doings rounds) are.0, sent_append sent (rounds_doings rounds))
+    (rw (sent_sends (round_bytes round), rounds_sent_are rounds are.1))
 
 pub rounds_latest : (rounds : List Round) → latest_slot (rounds_doings rounds) ≡ greatest_slot rounds
 rounds_latest [] = refl
@@ -252,10 +245,8 @@ past_sends [] rest front after is whole = (front, (refl, is))
 past_sends (b ∷ bytes) rest [] after is whole =
     let next : after ≡ Sent b ∷ (sends bytes ++ rest) = sym is in absurd (whole b (sends bytes ++ rest) next)
 past_sends (b ∷ bytes) rest (d ∷ front) after is whole =
-    let first : d ≡ Sent b = cc in
-    let tail : sends bytes ++ rest ≡ front ++ after = cc in
-    let next = past_sends bytes rest front after tail whole in
-    (next.0, (ap (λ l. d ∷ l) next.1.0 ∙ ap (λ x. x ∷ (sends bytes ++ next.0)) first, next.1.1))
+    let next = past_sends bytes rest front after (cc) whole in
+    (next.0, (ap (λ l. d ∷ l) next.1.0 ∙ ap (λ x. x ∷ (sends bytes ++ next.0)) (cc), next.1.1))
 
 pub whole_rounds : (rounds : List Round) (front after : List IoEvent) → rounds_doings rounds ≡ front ++ after
     → ((byte : ℕ) (later : List IoEvent) → after ≡ Sent byte ∷ later → ⊥) → AreWhole rounds front
@@ -270,6 +261,5 @@ whole_rounds (round ∷ rounds) (d ∷ front) after is whole =
       first = round ∷ rest.first;
       later = rest.later;
       parts = ap (λ l. round ∷ l) rest.parts;
-      front_is = ap (λ x. x ∷ front) first ∙ (ap (λ l. round.event ∷ l) next.1.0
-          ∙ ap (λ l. round.event ∷ (sends (round_bytes round) ++ l)) rest.front_is);
+      front_is = cc (first, next.1.0, rest.front_is);
     }

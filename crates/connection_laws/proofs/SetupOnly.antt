@@ -20,7 +20,7 @@ use Rattle.connection_laws.proofs.RequestEffects.{Ends, Starts, Stays}
 use Rattle.connection_laws.proofs.StationAnswers.{nothing_left}
 use Rattle.session.specs.declared.commands.Ask.TheVariants.{Reply}
 use Rattle.connection_laws.proofs.ClientSetups.{IsSettled, settled_by, setup_is, Beginning}
-use Rattle.session_laws.proofs.SetupLemmas.{IsSetupRequest, SetupHeard, Refused, Settled, setup_heard}
+use Rattle.session_laws.proofs.SetupLemmas.{SetupHeard, Refused, Settled, setup_heard}
 use Rattle.connection_laws.proofs.CourseInduction.{AnsweredRequest, Piece, GoesBack, course_back, rounds_requests}
 use Rattle.conn.proofs.StationAnswers.{ComesAs, BytesCame, SlotCame}
 use Rattle.connection_laws.proofs.Lists.{Each}
@@ -38,8 +38,7 @@ no_play_begins {old} request stands none askings =
     elim (request_turns request) [
       | Stays same still ↦ still.none askings
       | Starts begins ↦
-          let heard = request.replied.heard in
-          let taken = (play_started (heard_by heard.hears)
+          let taken = (play_started (heard_by request.replied.heard.hears)
           (record { rest = stands.rest; asks = begins.asked_is })).play.taken in
           absurd (none taken.request taken.is_request taken.judged.talk.spoken.named)
       | Ends halts ↦ halts.none askings
@@ -88,7 +87,7 @@ still_as : {b : Beginning} {old new : SessionState} → ground_of new ≡ ground
     → IsWaitingStill b old → IsWaitingStill b new
 still_as {b} ground state still = record {
   ground = ground ∙ still.ground;
-  unbegun = subst (IsUnbegun b.wish b.start.films) (sym state) still.unbegun;
+  unbegun = rw state still.unbegun;
 }
 
 unsending : (wish : Wish) (films : List Stored) (state : State) → IsUnbegun wish films state → is_sending state ≡ false
@@ -140,7 +139,7 @@ replied_waits false s still = still
 pub reply_same : (asking : SessionState) (ask : Ask) (outcome : Outcome) (new : SessionState) → ask ≡ Reply
     → IsAskAnswered asking ask outcome new → new ≡ asking
 reply_same asking ask outcome new is answered =
-    go outcome (subst (λ a. IsAskAnswered asking a outcome new) is answered)
+    go outcome (rw is at answered)
   where
     go : (o : Outcome) → IsAskAnswered asking Reply o new → new ≡ asking
     go Unasked same = same
@@ -167,11 +166,9 @@ pub setup_asked : {b : Beginning} {old new : Stage} (request : AnsweredRequest o
     → (request.replied.heard.ask ≡ Reply) × IsWaitingStill b request.replied.heard.asking
 setup_asked {b} {old} request is waits =
     let heard = request.replied.heard in
-    let S : List ℕ → Type 0 = λ m.
-    IsSetupRequest m (film_url b.wish ++ codes "/video") (request_head (setup_parts b.wish)) in
     setup_waits waits
     (setup_heard old.session request.message (film_url b.wish ++ codes "/video") (request_head (setup_parts b.wish))
-    heard.ask heard.asking (subst S (sym is) (setup_is b)) heard.hears)
+    heard.ask heard.asking (rw is (setup_is b)) heard.hears)
 
 -- a SETUP was answered, and PLAY is still to come
 pub answered_waits : {b : Beginning} {old new : Stage} (request : AnsweredRequest old new)
@@ -181,10 +178,10 @@ answered_waits {b} request is waits =
     let still = setup_asked request is waits in
     let same = reply_same heard.asking heard.ask outcome replied.answered still.0 heard.answered in
     let after = replied_waits (can_reply replied.answered) replied.answered
-    (subst (IsWaitingStill b) (sym same) still.1) in
+    (rw same still.1) in
     record {
       stands = request_stands request waits.stands;
-      still = subst (λ (s : Stage). IsWaitingStill b s.session) (sym replied.new_is) after;
+      still = rw replied.new_is after;
     }
   where
     open request use {outcome, replied}

@@ -1,6 +1,5 @@
 -- What a request, a reply and a slot make of what is being sent.
-use Rattle.std.proofs.Common.{◌≡◌, ℕ, ◌+◌, ◌≤◌, ◌&&◌, if◌then◌else◌, Bool, true, false, length, refl, sym, ap, ◌∙◌}
-use Rattle.std.proofs.Common.{subst, arith}
+use Rattle.std.proofs.Common.{◌≡◌, ℕ, ◌+◌, ◌≤◌, ◌&&◌, if◌then◌else◌, Bool, true, false, length, refl, ap, ◌∙◌, arith}
 use Rattle.connection_laws.proofs.Terms.{IsBoundary, framed_bytes, IsPacerState, PacerState, after_step, first_slots}
 use Rattle.connection_laws.proofs.Terms.{next_boundary, stands_at_boundary, Setup, State, Playing, Stopping, is_between}
 use Rattle.connection_laws.proofs.Terms.{stepped_in, after_stop, Outcome, Awaited, SessionState, total_bytes}
@@ -19,8 +18,7 @@ use Rattle.pacer.proofs.SlotStepLemmas.{most-slots}
 pub ended_at : {p : PacerState} {slot : ℕ} → IsOnTime p slot → IsAtLast p → IsBoundary p.pieces (p.before + p.sent)
     → p.sent ≡ p.keep
 ended_at {p} on last boundary =
-    let least : p.before + p.keep ≤ p.before + p.sent = last (p.before + p.sent) boundary (omega arith) in
-    omega (arith, least, on.even, on.pacing.due)
+    omega (arith, last (p.before + p.sent) boundary (omega arith), on.even, on.pacing.due)
 
 -- ---- a request
 
@@ -38,7 +36,6 @@ halted_pacing p slot is =
     let inside : p.before + p.sent ≤ length (framed_bytes p.pieces) =
     omega (arith, on.pacing.whole, on.pacing.most, on.pacing.due, on.even) in
     let next = boundary-from p.pieces (p.before + p.sent) inside in
-    let end : p.before + p.keep ≡ length (framed_bytes p.pieces) = omega (arith, on.pacing.whole, is.1) in
     let most : boundary_from p.pieces (p.before + p.sent) ≤ p.before + p.keep =
     next.least (p.before + p.keep) on.pacing.ends (omega (arith, on.pacing.due, on.even)) in
     let place : p.before + next_boundary p ≡ boundary_from p.pieces (p.before + p.sent) = omega (arith, next.after) in
@@ -49,7 +46,7 @@ halted_pacing p slot is =
           whole = on.pacing.whole;
           short = on.pacing.short;
           begins = on.pacing.begins;
-          ends = subst (IsBoundary p.pieces) (sym place) next.boundary;
+          ends = rw place next.boundary;
           most = omega (arith, most, place, is.1);
           due = omega (arith, on.pacing.due, on.even, is.1, few, place, next.after);
           sent = on.pacing.sent;
@@ -70,7 +67,7 @@ turn_sound {old} sound (Starts begins) =
     let later = begins.admitted.later in
     rw begins.sends (record { pacing = begins.pacing; passed = omega (arith, later); even = refl }, refl)
 turn_sound {old} sound (Ends halts) =
-    rw halts.sends (halted_pacing halts.pacing old.heard (subst (λ s. IsSound s true old.heard) halts.going sound))
+    rw halts.sends (halted_pacing halts.pacing old.heard (rw halts.going at sound))
 
 -- ---- a slot
 

@@ -35,15 +35,12 @@ later_lower low slot plays less are = record {
 not_begun : (slot : ℕ) (play : FilmPlay) → slot < play.start → due_of slot play ≡ 0
 not_begun slot play later =
     let none : slot + 1 - play.start ≡ 0 = omega (arith, later) in
-    let nothing : first_slots play.plan (slot + 1 - play.start) ≡ 0 = ap (first_slots play.plan) none in
-    omega (arith, nothing)
+    omega (arith, ap (first_slots play.plan) none)
 
 pub none_due : (slot : ℕ) (plays : List FilmPlay) → AreAfter slot plays → all_due slot plays ≡ 0
 none_due slot [] are = refl
 none_due slot (play ∷ plays) are =
-    let first : due_of slot play ≡ 0 = not_begun slot play are.0 in
-    let rest : all_due slot plays ≡ 0 = none_due slot plays are.1 in
-    due_cons slot play plays ∙ omega (arith, first, rest)
+    due_cons slot play plays ∙ omega (arith, not_begun slot play are.0, none_due slot plays are.1)
 
 -- slots from one on
 abbrev pub AreFrom : ℕ → List ℕ → Type 0
@@ -92,10 +89,9 @@ pub record UpTo (p : PacerState) : Type 0 where
 -- how many bytes these are
 size_to : (p : PacerState) (up : UpTo p) → p.sent + length (plan_bytes p p.sent up.to) ≡ up.to
 size_to p up =
-    let rest : List ℕ = drop (p.before + p.sent) (framed_bytes p.pieces) in
     omega (
       arith,
-      length-take (p.before + up.to - (p.before + p.sent)) rest,
+      length-take (p.before + up.to - (p.before + p.sent)) (drop (p.before + p.sent) (framed_bytes p.pieces)),
       length-drop (p.before + p.sent) (framed_bytes p.pieces),
       up.pacing.whole,
       up.pacing.most,
@@ -127,8 +123,7 @@ pub record IsAtNext (p : PacerState) (due : ℕ) : Type 0 where
 pub due_first : (play : FilmPlay) (plays : List FilmPlay) (slot : ℕ) → AreAfter slot plays
     → all_due slot (play ∷ plays) ≡ due_of slot play
 due_first play plays slot are =
-    let none : all_due slot plays ≡ 0 = none_due slot plays are in
-    due_cons slot play plays ∙ omega (arith, none)
+    due_cons slot play plays ∙ omega (arith, none_due slot plays are)
 
 -- a text at the first boundary from what was due in a slot on, before plays that begin later
 pub record NextText (p : PacerState) (keep : ℕ) (plays : List FilmPlay) (end : ℕ) : Type 0 where
@@ -146,7 +141,6 @@ pub text_at : {p : PacerState} {keep : ℕ} {plays : List FilmPlay} {come : ToCo
 text_at {p} {keep} {plays} {come} next stand =
     let play : FilmPlay = play_with p keep in
     let first = due_first play plays slot after in
-    let total = due_cons come.end play plays in
     let own : p.sent ≤ due_of come.end play = omega (arith, far, stand.holds) in
     record {
       holds = stand.holds;
@@ -157,12 +151,12 @@ text_at {p} {keep} {plays} {come} next stand =
             after = omega (arith, first, is, at.after);
             least = λ other boundary from. elim boundary [
               | inl mine ↦
-                  let least = at.least (p.before + other) mine.1 (omega (arith, first, is, from)) in omega
-                  (arith, least)
+                  omega
+                  (arith, at.least (p.before + other) mine.1 (omega (arith, first, is, from)))
               | inr past ↦ omega (arith, stand.holds, past.0)
             ];
           };
-          reached = omega (arith, total, own);
+          reached = omega (arith, due_cons come.end play plays, own);
         },
         stand.texts,
       );
@@ -195,11 +189,13 @@ past_unsent {slot} past later none = λ place boundary due.
     elim boundary [
       | inl own ↦
           let nothing : all_due slot past.plays ≤ 0 = omega (arith, first, due, own.0) in
-          let bad = none 0 past.begins nothing in absurd (omega (arith, bad))
+          absurd (omega (arith, none 0 past.begins nothing))
       | inr other ↦
-          let last = past_due past past.end past.ends in
-          let less = none (place - past.play.keep) other.1 (omega (arith, first, due, other.0)) in
-          omega (arith, last, less)
+          omega (
+            arith,
+            past_due past past.end past.ends,
+            none (place - past.play.keep) other.1 (omega (arith, first, due, other.0)),
+          )
     ]
 
 past_sent : {slot : ℕ} (past : PastPlay) (at : ℕ) (text : List ℕ) → past.from ≤ slot

@@ -43,11 +43,9 @@ pub hears_same : {one other : HeardRequest} → SameQuestion one other
     → (other.ask ≡ one.ask) × (other.asking ≡ one.asking)
 hears_same {one} {other} same =
     let alike : LackMemoryAlike one (asked_again one other) =
-    subst (λ s. LackMemoryAlike one (record other { session = s; message = one.message })) same.session
-    (subst (λ m. LackMemoryAlike one (record other { message = m })) same.message same.alike) in
+    rw same.session at (subst (λ m. LackMemoryAlike one (record other { message = m })) same.message same.alike) in
     let also : Hears one.session one.message other.ask other.asking =
-    subst (λ s. Hears s one.message other.ask other.asking) same.session
-    (subst (λ m. Hears other.session m other.ask other.asking) same.message same.also) in
+    rw same.session at (subst (λ m. Hears other.session m other.ask other.asking) same.message same.also) in
     hears_by one other alike (hears_once (heard_by same.hears) same.films also)
 
 -- ---- the station answers
@@ -72,14 +70,13 @@ outcomes_same : {one other : Outcome} (asked : Bool) (alike : AnswersAlike one o
     → IsAsked asked other → (other ≡ one) × AreSameAnswers alike.ones alike.others
 outcomes_same {one} {other} true alike is also =
     let both : AreSameAnswers (one ∷ alike.ones) (other ∷ alike.others) =
-    subst (λ l. AreSameAnswers (l ++ alike.ones) (other ∷ alike.others)) (answer_one one is)
+    rw (answer_one one is) at
     (subst (λ l. AreSameAnswers (answer_in one ++ alike.ones) (l ++ alike.others)) (answer_one other also)
     alike.same) in
     (sym both.0, both.1)
 outcomes_same {one} {other} false alike is also = (
   also ∙ sym is,
-  subst (λ o. AreSameAnswers (answer_in o ++ alike.ones) alike.others) is
-      (subst (λ o. AreSameAnswers (answer_in one ++ alike.ones) (answer_in o ++ alike.others)) also alike.same),
+  rw is at (subst (λ o. AreSameAnswers (answer_in one ++ alike.ones) (answer_in o ++ alike.others)) also alike.same),
 )
 
 -- a reply of the session's own asks the station for nothing

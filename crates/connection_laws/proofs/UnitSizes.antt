@@ -1,7 +1,6 @@
 -- The sizes of units, as a client reads them from the frames and reports of a run.
 use Rattle.std.proofs.Common.{◌≡◌, ℕ, zero, suc, ◌+◌, ◌-◌, ◌<◌, ◌≤◌, ◌&&◌, Bool, true, false, not, nat_lt, List, []}
-use Rattle.std.proofs.Common.{◌∷◌, ◌++◌, length, take, map, sum, refl, sym, ap, subst, ◌∙◌, append_assoc, arith, inl}
-use Rattle.std.proofs.Common.{inr}
+use Rattle.std.proofs.Common.{◌∷◌, ◌++◌, length, take, map, sum, refl, sym, ap, ◌∙◌, append_assoc, arith, inl, inr}
 use Rattle.std.proofs.lemmas.Bool.{cases_lt, cond-true, cond-false, and_from}
 use Rattle.std.proofs.lemmas.List.{append-nil, length-append, take-append-le, take_all}
 use Rattle.std.proofs.lemmas.List.Sums.{sum_by-cons}
@@ -15,7 +14,6 @@ use Rattle.rtp_pack.specs.Laws.{IsLastMarked}
 use Rattle.rtp_pack.specs.Packets.{IsLaid}
 use Rattle.rtp_pack.proofs.MarkerLemmas.{last-marked}
 use Rattle.rtp_pack.proofs.UnitPacketLemmas.{packets-are, packets-cover}
-use Rattle.film_frames.specs.Pieces.{wire_in}
 use Rattle.film_frames.proofs.PieceLemmas.{pieces-cons, unit-sound, unit-wire}
 use Rattle.film_frames.proofs.RunBytesLemmas.{blocks_from-begin, blocks_from-count}
 use Rattle.film_frames.proofs.TrackLemmas.{begin-all}
@@ -37,7 +35,7 @@ moments_parts = joins_parts events_of_elements (record { one = element_events; n
 -- what holds of the events after a block of one event
 pub block_sizes : {event : ClientEvent} (b : List ℕ) (bs : List (List ℕ)) (P : List ClientEvent → Type 0)
     → element_events b ≡ event ∷ [] → P (event ∷ events_of_elements bs) → P (events_of_elements (b ∷ bs))
-block_sizes b bs P is met = subst (λ l. P (l ++ events_of_elements bs)) (sym is) met
+block_sizes b bs P is met = rw is met
 
 -- before the last frame the sizes are as they were
 part_frames : (from : RunFrom) (unit : PictureUnit) (k : ℕ) (marked : (packets : List Packet) × IsLastMarked packets)
@@ -71,8 +69,7 @@ whole_frames {s} from unit (p ∷ []) marked some =
     let last : is_last b ≡ true = last_is run f unit p ∙ marked in
     block_sizes b [] (λ l. IsUnitDone s (s.pending + length (b ++ [])) (steps s l)) (frame_moment run f unit p media)
     (record {
-      sizes = cond-true (is_last b) (s.sizes ++ (s.pending + length b) ∷ []) s.sizes last
-          ∙ ap (λ (l : List ℕ). s.sizes ++ (s.pending + length l) ∷ []) (sym (append-nil b));
+      sizes = cc (cond-true (is_last b) (s.sizes ++ (s.pending + length b) ∷ []) s.sizes last, append-nil b);
       pending = cond-true (is_last b) 0 (s.pending + length b) last;
       inside = ap not last;
     })
@@ -184,10 +181,7 @@ pub more_blocks : (run : FramedRun) (f o : ℕ) (starts : List ℕ) (unit : Pict
 more_blocks run f o starts unit units =
     let first = unit_pieces starts unit in
     let rest = pieces_of starts units in
-    ap (λ ps. blocks_from run f o ps) (pieces-cons starts unit units)
-    ∙ (blocks_append run f o first rest
-    ∙ ap (λ bs. bs ++ blocks_from run (frames_after f first) (octets_after o first) rest)
-    (unit_made run f o starts unit))
+    cc (pieces-cons starts unit units, blocks_append run f o first rest, unit_made run f o starts unit)
 
 pub blocks_one : (from : RunFrom) (starts : List ℕ) (units : List PictureUnit) →
     AreOneBlocks (blocks_from from.run from.frames from.octets (pieces_of starts units))
@@ -195,7 +189,7 @@ blocks_one from starts [] = tt
 blocks_one from starts (unit ∷ units) =
     let f2 = frames_after f (unit_pieces starts unit) in
     let o2 = octets_after o (unit_pieces starts unit) in
-    subst AreOneBlocks (sym (more_blocks run f o starts unit units))
+    rw (more_blocks run f o starts unit units)
     (each_append IsOneBlock (unit_blocks run starts unit f o) (blocks_from run f2 o2 (pieces_of starts units))
     (unit_one from starts unit) (blocks_one (record from { frames = f2; octets = o2 }) starts units))
   where
@@ -231,10 +225,9 @@ first_sized first =
     let pieces = unit_pieces starts unit in
     let sound = unit-sound run.film starts unit laid short in
     let n = length (blocks_from run f o pieces) in
-    ap (λ bs. length (framed_bytes bs)) (sym (unit_made run f o starts unit))
-    ∙ (sym (begin-all (blocks_from run f o pieces)) ∙ (blocks_from-begin run f o pieces n sound
-    ∙ (ap (λ l. wire_in l) (take_all n pieces (omega (arith, blocks_from-count run f o pieces)))
-    ∙ unit-wire starts unit laid)))
+    rw (← (unit_made run f o starts unit), ← (begin-all (blocks_from run f o pieces)))
+    (rw (blocks_from-begin run f o pieces n sound)
+    (rw (take_all n pieces (omega (arith, blocks_from-count run f o pieces)), unit-wire starts unit laid)))
   where
     open first use {from, starts, unit, laid, short}
 
@@ -248,7 +241,6 @@ module _ {s : Sum} where
       → HaveCome (first_size first ∷ sizes) c s (first_blocks first ++ ys)
   come_within {c} first ys sizes less =
       let xs = first_blocks first in
-      let w = first_size first in
       let within = all_within xs ys c (omega (arith, less, first_sized first)) in
       let k = count_ended c xs in
       rw within.0 (rw (take-append-le k xs ys (omega (arith, within.1)))
@@ -257,7 +249,7 @@ module _ {s : Sum} where
         sizes_are = part_unit first.unit.starts_group first.from k (first_marked first) s within.1
             ∙ sym (append-nil s.sizes);
         among = omega arith;
-        next = λ l. omega (arith, less, sum_by-cons (λ (y : ℕ). y) w (take 0 sizes));
+        next = λ l. omega (arith, less, sum_by-cons (λ (y : ℕ). y) (first_size first) (take 0 sizes));
       }))
 
   -- a sum after the first unit, and what comes later
@@ -277,23 +269,30 @@ module _ {s : Sum} where
       let size = first_sized first in
       let d = c - length (framed_bytes xs) in
       let k = count_ended d ys in
-      let past : count_ended c (xs ++ ys) ≡ length xs + k = (all_past xs ys c (omega (arith, more, size))).0 in
       let t = steps s (events_of_elements xs) in
       let done = first_done first in
-      let same = blocks_same xs s (unit_one first.from first.starts first.unit) in
-      let still : plays t ≡ true = ap (λ n. nat_lt 1 n) same.replies ∙ first.between.on in
-      let come = later t (record { on = still; none = done.pending; outside = done.inside }) in
-      let u = steps t (events_of_elements (take k ys)) in
-      let all : steps s (events_of_elements (xs ++ take k ys)) ≡ u =
+      let come = later t
+      (record {
+        on = ap (λ n. nat_lt 1 n) (blocks_same xs s (unit_one first.from first.starts first.unit)).replies
+            ∙ first.between.on;
+        none = done.pending;
+        outside = done.inside;
+      }) in
+      let all : steps s (events_of_elements (xs ++ take k ys)) ≡ (steps t (events_of_elements (take k ys))) =
       rw (moments_parts xs (take k ys), steps_on s (events_of_elements xs) (events_of_elements (take k ys))) in
-      rw past (rw (take-append-add xs ys k) (rw all (record {
+      rw ((all_past xs ys c (omega (arith, more, size))).0) (rw (take-append-add xs ys k) (rw all (record {
         count = suc come.count;
         sizes_are = rw (come.sizes_are, done.sizes, size, append_assoc s.sizes (w ∷ []) (take come.count sizes));
         among = omega (arith, come.among);
         next = λ l.
-            let further : d < sum (take (come.count + 1) sizes) = come.next (omega (arith, l)) in
-            let same_count = ap (λ n. sum (take n (w ∷ sizes))) (one_more come.count) in
-            omega (arith, further, same_count, sum_by-cons (λ (y : ℕ). y) w (take (come.count + 1) sizes), size, more);
+            omega (
+              arith,
+              come.next (omega (arith, l)),
+              ap (λ n. sum (take n (w ∷ sizes))) (one_more come.count),
+              sum_by-cons (λ (y : ℕ). y) w (take (come.count + 1) sizes),
+              size,
+              more,
+            );
       })))
 
 -- the sizes of the units that are complete
@@ -361,14 +360,14 @@ units_told from starts (unit ∷ units) =
     let o2 = octets_after o (unit_pieces starts unit) in
     let xs = unit_blocks run starts unit f o in
     let ys = blocks_from run f2 o2 (pieces_of starts units) in
-    let its = frame_blocks run unit f (unit_packets starts unit) in
-    ap (λ bs. frames_of (events_of_elements bs)) (more_blocks run f o starts unit units)
-    ∙ (ap frames_of (moments_parts xs ys) ∙ (frames_parts (events_of_elements xs) (events_of_elements ys)
-    ∙ (ap (λ l. l ++ frames_of (events_of_elements ys)) (unit_told unit.starts_group from unit (unit_packets starts
-    unit))
-    ∙ (ap (λ l. its ++ l) (units_told (record from { frames = f2; octets = o2 }) starts units)
-    ∙ (sym (unit_among run f o starts unit (record { parts = pieces_of starts units; blocks = ys }))
-    ∙ (ap (λ ps. frames_among ps (xs ++ ys)) (sym (pieces-cons starts unit units))
-    ∙ ap (λ bs. frames_among (pieces_of starts (unit ∷ units)) bs) (sym (more_blocks run f o starts unit units))))))))
+    cc (
+      more_blocks run f o starts unit units,
+      moments_parts xs ys,
+      frames_parts (events_of_elements xs) (events_of_elements ys),
+      unit_told unit.starts_group from unit (unit_packets starts unit),
+      units_told (record from { frames = f2; octets = o2 }) starts units,
+      unit_among run f o starts unit (record { parts = pieces_of starts units; blocks = ys }),
+      pieces-cons starts unit units,
+    )
   where
     open from use {run, frames as f, octets as o}

@@ -126,9 +126,7 @@ pub due_going : (p : PacerState) (slot keep : ℕ) → IsPacerState p → p.keep
     → min (first_slots p.plan (slot + 1 - p.start)) p.keep ≤ keep
     → due_of slot (play_with p keep) ≡ min (first_slots p.plan (slot + 1 - p.start)) p.keep
 due_going p slot keep is whole holds =
-    let few : first_slots p.plan (slot + 1 - p.start) ≤ total_bytes p.plan =
-    most-slots p.plan (slot + 1 - p.start) is.plan in
-    omega (arith, few, whole, holds)
+    omega (arith, most-slots p.plan (slot + 1 - p.start) is.plan, whole, holds)
 
 -- what was sent is due by the end of each later slot
 pub due_far : (p : PacerState) (heard end : ℕ) → IsOnTime p heard → heard ≤ end
@@ -141,7 +139,7 @@ due_far p heard end on later =
 
 pub due_here : (p : PacerState) (heard : ℕ) → IsOnTime p heard
     → min (first_slots p.plan (heard + 1 - p.start)) p.keep ≡ p.sent
-due_here p heard on = sym (on.even ∙ on.pacing.due ∙ ap (λ n. min (first_slots p.plan n) p.keep) on.passed)
+due_here p heard on = cc (on.passed, on.pacing.due, on.even)
 
 inside_of : (p : PacerState) → IsPacerState p → p.before + p.sent ≤ length (framed_bytes p.pieces)
 inside_of p is = omega (arith, is.whole, is.most, is.due, is.sent)
@@ -153,8 +151,7 @@ boundary_stands p is boundary =
     let place : ℕ = p.before + p.sent in
     let itself : IsBoundaryAfter p.pieces place place =
     record { boundary = boundary; after = omega arith; least = λ other b order. order } in
-    let stays : place ≡ boundary_from p.pieces place = boundary-is p.pieces place place (inside_of p is) itself in
-    eq-eqb (next_boundary p) p.sent (omega (arith, stays))
+    eq-eqb (next_boundary p) p.sent (omega (arith, boundary-is p.pieces place place (inside_of p is) itself))
 
 -- where what was sent doesn't end at a boundary, a reply is held up
 pub held_here : (p : PacerState) (heard : ℕ) → IsOnTime p heard → stands_at_boundary p ≡ false → IsHeldUp p heard heard
@@ -168,7 +165,7 @@ held_here p heard on stands =
         | inr more ↦
             let same : place ≡ p.before + p.sent = omega (arith, here, from, more) in
             absurd (true≢false
-            (sym (boundary_stands p on.pacing (subst (IsBoundary p.pieces) same boundary)) ∙ stands))
+            (sym (boundary_stands p on.pacing (rw same at boundary)) ∙ stands))
       ];
     }
 
@@ -237,9 +234,7 @@ next_reached s =
       boundary = boundary_here (after_step true slot p) (stopped_is slot p is) stands;
       after = omega (arith, held.1.due, next.after, is.sent);
       least = λ place boundary from.
-          let past = held.1.none place boundary from in
-          let least = next.least place boundary (omega (arith, past)) in
-          omega (arith, least, next.after);
+          omega (arith, next.least place boundary (omega (arith, held.1.none place boundary from)), next.after);
     }
   where
     open s use {p, now, on, stands, held}

@@ -65,7 +65,7 @@ all_watched : {wish : Wish} {watched : Watched} {heard : List IoEvent} {out : Li
     → HasWatchedAll wish watched client.rounds client.mid end.0 out
 all_watched {wish} {watched} {out = out} client (bytes, (sent, (stops, doings_are))) =
     let moments = events_of_rounds rounds in
-    let out_is : out ≡ payloads_of moments ++ client.last_out = let e = client.out in cc in
+    let out_is : out ≡ payloads_of moments ++ client.last_out = cc in
     let at = stage (history_after mid.history (events_of_elements stops.elements)) stops.mid in
     let heard : Heard (rounds_heard rounds) mid = heard_all [] (stage [] []) mid rounds heard_none runs in
     let h : Heard (rounds_heard rounds ++ bytes) at = heard_more bytes stops.elements heard stops.cut stops.good in
@@ -73,10 +73,8 @@ all_watched {wish} {watched} {out = out} client (bytes, (sent, (stops, doings_ar
     rw (history-later (stage [] []) mid rounds runs, after-on [] moments (events_of_elements stops.elements)) in
     let given = stop_of wish watched at stops.more_sent stops.more_out stops.stops in
     let all_out : out ≡ payloads_of (moments ++ events_of_elements stops.elements) =
-    out_is ∙ (ap (λ o. payloads_of moments ++ o) (stops.out_is
-    ∙ (ap (λ o. payloads_of (events_of_elements stops.elements) ++ o) given.out_none
-    ∙ append-nil (payloads_of (events_of_elements stops.elements))))
-    ∙ sym (flat_map-append payload_of moments (events_of_elements stops.elements))) in
+    rw (out_is, stops.out_is, given.out_none, append-nil (payloads_of (events_of_elements stops.elements)))
+    (rw (← (flat_map-append payload_of moments (events_of_elements stops.elements)))) in
     let done = at_done (moments ++ events_of_elements stops.elements) h given.next given.gives told all_out in
     record { done = done.0; elements = stops.elements; history = ap (λ (s : WatchStage). s.history) done.1 }
   where
@@ -158,10 +156,9 @@ heard_rounds wish h [] = refl
 heard_rounds wish h (round ∷ rounds) =
     let sent = sends (requests_after wish h round.moments) in
     let rest = rounds_doings wish (history_after h round.moments) rounds in
-    heard_one round.event (sent ++ rest) ∙ ap (λ l. bytes_in round.event ++ l)
-    (heard_append sent rest
-    ∙ (ap (λ l. l ++ heard_bytes rest) (heard_sends (requests_after wish h round.moments))
-    ∙ heard_rounds wish (history_after h round.moments) rounds))
+    rw (heard_one round.event (sent ++ rest), heard_append sent rest)
+    (rw (heard_sends (requests_after wish h round.moments))
+    (rw (heard_rounds wish (history_after h round.moments) rounds)))
 
 -- what it exposed before a round, and after it
 pub record IsSplit (wish : Wish) (h : History) (before : List Round) (round : Round) (told : List IoEvent) : Type 0
@@ -193,16 +190,14 @@ pub told_bytes : {wish : Wish} {end : WatchEnd} {heard : List IoEvent} {out : Li
 told_bytes {wish} {end} {heard} {out} client =
     let setup = sends (setup_text wish) in
     let doings = rounds_doings wish [] client.rounds in
-    let told : heard ≡ setup ++ (doings ++ client.last_doings) = let e = client.told in cc in
-    ap heard_bytes told ∙ (heard_append setup (doings ++ client.last_doings)
-    ∙ (ap (λ l. l ++ heard_bytes (doings ++ client.last_doings)) (heard_sends (setup_text wish))
-    ∙ (heard_append doings client.last_doings
-    ∙ ap (λ l. l ++ heard_bytes client.last_doings) (heard_rounds wish [] client.rounds))))
+    let told : heard ≡ setup ++ (doings ++ client.last_doings) = cc in
+    rw (told, heard_append setup (doings ++ client.last_doings), heard_sends (setup_text wish))
+    (rw (heard_append doings client.last_doings, heard_rounds wish [] client.rounds))
 
 -- the bytes that came last
 pub last_bytes : {doings : List IoEvent} (bytes sent : List ℕ) → doings ≡ HeardBytes bytes ∷ sends sent
     → heard_bytes doings ≡ bytes
-last_bytes bytes sent is = ap heard_bytes is ∙ (ap (λ l. bytes ++ l) (heard_sends sent) ∙ append-nil bytes)
+last_bytes bytes sent is = cc (is, heard_sends sent, append-nil bytes)
 
 -- the course of a watching that is done, by what its link exposed
 pub record IsToldCourse (wish : Wish) (watched : Watched) (heard : List IoEvent) (out : List ℕ)
@@ -222,12 +217,12 @@ told_course wish watched heard out client =
     let setup = sends (setup_text wish) in
     let doings = rounds_doings wish [] client.rounds in
     let end = end_of client.mid client.ends in
-    let told : heard ≡ setup ++ (doings ++ client.last_doings) = let e = client.told in cc in
+    let told : heard ≡ setup ++ (doings ++ client.last_doings) = cc in
     let last : heard_bytes client.last_doings ≡ end.0 = last_bytes end.0 end.1.0 end.1.1.1 in
     record {
       bytes = end.0;
       all = all_watched client end;
-      heard_is = told_bytes client ∙ ap (λ l. rounds_heard client.rounds ++ l) last;
+      heard_is = cc (told_bytes client, last);
       split = λ before later round is.
           let its = split_at wish [] before later round in
           let mine = rounds_doings wish [] before in (

@@ -1,7 +1,7 @@
 -- A film that is watched over a link that carries it slot by slot comes back complete. A client that receives a film's
 -- stream refuses none of it, and comes to `Done` once all of it came.
-use Rattle.std.proofs.Common.{ℕ, ◌-◌, List, [], ◌∷◌, ◌++◌, Some, ap, subst, sym, ◌∙◌, ◌≡◌, length, take, Ok, refl, inl}
-use Rattle.std.proofs.Common.{inr, ◌+◌, ◌^◌, ◌<◌, map, arith}
+use Rattle.std.proofs.Common.{ℕ, List, [], ◌∷◌, ◌++◌, Some, ap, subst, sym, ◌∙◌, ◌≡◌, length, take, Ok, refl, inl, inr}
+use Rattle.std.proofs.Common.{◌+◌, ◌^◌, ◌<◌, map, arith}
 use Rattle.std.proofs.lemmas.List.{append-nil}
 use Rattle.connection_laws.proofs.Terms.{IoEvent, HeardBytes, sends, Stored, framed_bytes, rounds_doings, IsPrefixOf}
 use Rattle.connection_laws.proofs.Terms.{HasCourse, Ends, RunsAll, WatchStage, StopsAt, first_slot, watched_in, IsWish}
@@ -15,7 +15,7 @@ use Rattle.connection_laws.specs.LinkDelivery.{IsDelivered}
 use Rattle.connection_laws.proofs.EndToEndMeter.{all_sent, fed, front_again, stream_of, all_sent_whole, stream_replies}
 use Rattle.connection_laws.proofs.EndToEndMeter.{third_of, played_stream}
 use Rattle.connection_laws.proofs.MeterInput.{all_of, AreTexts}
-use Rattle.connection_laws.proofs.MeterBounds.{AreFed, IsFed}
+use Rattle.connection_laws.proofs.MeterBounds.{AreFed}
 use Rattle.connection_laws.proofs.WatchCourses.{kept_promise, told_course, last_bytes, told_bytes}
 use Rattle.interleave.proofs.StreamElements.{TwoCuts, cuts_agree, tells_none}
 use Rattle.rtsp_client.specs.Outcomes.{IsDecided}
@@ -38,17 +38,16 @@ pub record IsWatched (wish : Wish) (stored : Stored) (watched : Watched) (out : 
 pub watched_whole : (wish : Wish) (stored : Stored) (watched : Watched) (out : List ℕ)
     → IsWatched wish stored watched out → HasWatchedWhole wish stored watched out
 watched_whole wish stored watched out is =
-    let course = is.course in
     let heard = is.heard in
     let played = is.played in
     let client = is.client in
     let carried = is.carried in
     let x = stream_of played in
     let told = told_course wish watched heard out client in
-    let begin = first_slot client.mid.history in
-    let front = front_again (heard_bytes heard) (sent_bytes (rounds_doings course.rounds))
+    let front = front_again (heard_bytes heard) (sent_bytes (rounds_doings is.course.rounds))
     (framed_bytes (all_of x)) carried.front.0 carried.front.1.1 (all_sent played) in
-    let feeds : AreFed wish stored.film x begin [] client.rounds = λ before later round slot split event after_begin.
+    let feeds : AreFed wish stored.film x (first_slot client.mid.history) [] client.rounds = λ before later round slot
+    split event after_begin.
     let its = told.split before later round split in
     rw (← its.1.1.1)
     (fed played (carried.each its.0 its.1.0 slot (its.1.1.0 ∙ ap (λ e. its.0 ++ e ∷ its.1.0) event) after_begin)) in
@@ -108,8 +107,7 @@ stopped_done {wish} {s} w received stopped decided =
     let mid = w.client.mid in
     let rounds = w.client.rounds in
     let front : rounds_heard rounds ++ bytes ≡ take received.count (framed_bytes (all_of s.stream.x)) =
-    ap (λ l. rounds_heard rounds ++ l) (sym (last_bytes bytes sent doings)) ∙ sym (told_bytes w.client)
-    ∙ received.front in
+    cc (last_bytes bytes sent doings, told_bytes w.client, received.front) in
     let heard = heard_more bytes stops.elements
     (heard_all [] (stage [] []) mid rounds heard_none w.client.runs) stops.cut stops.good in
     let at = stage (history_after mid.history (events_of_elements stops.elements)) stops.mid in
@@ -130,17 +128,15 @@ refuses_none _ decided = tt
 -- where nothing came last, the rounds are all that came
 last_none : {wish : Wish} (w : Watching wish) → heard_bytes w.client.last_doings ≡ []
     → rounds_heard w.client.rounds ≡ heard_bytes w.heard
-last_none w none =
-    sym (told_bytes w.client ∙ ap (λ l. rounds_heard w.client.rounds ++ l) none
-    ∙ append-nil (rounds_heard w.client.rounds))
+last_none w none = cc (append-nil (rounds_heard w.client.rounds), none, told_bytes w.client)
 
 -- how it ended
 ended : {wish : Wish} {s : FilmStream} (w : Watching wish) → IsReceived s w.heard
     → Ends wish w.client.mid (length w.client.rounds) w.end w.client.last_doings w.client.last_out
     → RefusesNothing w.end
-ended w received (inl (inl lost, none, empty)) = subst RefusesNothing (sym lost.0) tt
-ended w received (inl (inr spent, none, empty)) = subst RefusesNothing (sym spent.0) tt
-ended w received (inr (inl early)) = subst RefusesNothing (sym early.0) tt
+ended w received (inl (inl lost, none, empty)) = rw lost.0 tt
+ended w received (inl (inr spent, none, empty)) = rw spent.0 tt
+ended w received (inr (inl early)) = rw early.0 tt
 ended w received (inr (inr (bytes, (sent, (stops, doings, few))))) =
     refuses_none w.end (stopped_done w received
     (record { bytes = bytes; sent = sent; out = _; stops = stops; doings = doings }))
@@ -159,7 +155,7 @@ ended_done w received decided waits (inr (inr (bytes, (sent, (stops, doings, few
 
 runs_idle : (old new : WatchStage) (rounds : List Round) → IsFirst old.rest (Ok More) → RunsAll old rounds new
     → IsFirst new.rest (Ok More)
-runs_idle old new [] idle all = subst (λ (s : WatchStage). IsFirst s.rest (Ok More)) (sym all) idle
+runs_idle old new [] idle all = rw all idle
 runs_idle old new (round ∷ rounds) idle all = runs_idle all.0 new rounds all.1.1 all.1.2
 
 -- where no complete element waits, all elements were received
@@ -169,8 +165,7 @@ whole_stream {elements} {rest} all alone cut idle =
     let cuts : TwoCuts (framed_bytes all) elements all rest [] = record { one = cut; other = all_cut all alone } in
     elim (cuts_agree cuts) [
       | inl (more, (is, after)) ↦ no_more more is after
-      | inr (more, (is, after)) ↦
-          is ∙ ap (λ l. all ++ l) (none_more more rest after).0 ∙ append-nil all
+      | inr (more, (is, after)) ↦ cc (is, (none_more more rest after).0, append-nil all)
     ]
   where
     no_more : (more : List (List ℕ)) → all ≡ elements ++ more → AreInputElements rest more [] → elements ≡ all
@@ -196,11 +191,11 @@ not_waiting s w received all =
     let heard : Heard (rounds_heard rounds) mid = heard_all [] (stage [] []) mid rounds heard_none runs in
     let idle : IsFirst mid.rest (Ok More) = runs_idle (stage [] []) mid rounds (inl refl) runs in
     let cut : AreInputElements (framed_bytes (all_of x)) heard.elements mid.rest =
-    subst (λ b. AreInputElements b heard.elements mid.rest) (all ∙ received.whole) heard.cut in
+    rw (all ∙ received.whole) at heard.cut in
     let elements = whole_stream (all_of x) x.alone cut idle in
     let are : heard.elements ≡ x.first ∷ x.second ∷ (x.blocks ++ last ∷ others) = rw (elements, later) in
-    let accepted = subst (λ l. HasAccepted l mid.history) are (accepted_of heard) in
-    let texts : AreTexts (last ∷ others) = subst AreTexts later x.later_are in
+    let accepted = rw are at (accepted_of heard) in
+    let texts : AreTexts (last ∷ others) = rw later at x.later_are in
     no_third x last others accepted texts.0.moment
   where
     open received use {last, others, later}
@@ -226,12 +221,10 @@ pub record IsServed (wish : Wish) (stored : Stored) (course : Course) : Type 0 w
 film_stream : {wish : Wish} {stored : Stored} {course : Course} → IsServed wish stored course → FilmStream
 film_stream {wish} {stored} {course} is =
     let played = is.played in
-    let R : List ℕ → List ℕ → List (List ℕ) → Type 0 = λ first second later.
-    AreGoodReplies stored.film first second later in
     record {
       stream = played_stream played;
       small = is.small;
-      readable = stream_replies played R is.replies;
+      readable = stream_replies played (λ first second later. AreGoodReplies stored.film first second later) is.replies;
       clauses = is.clauses;
     }
 

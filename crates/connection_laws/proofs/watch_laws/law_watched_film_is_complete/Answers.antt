@@ -1,5 +1,4 @@
-use Rattle.std.proofs.Common.{subst, sym}
-use Rattle.connection_laws.proofs.Terms.{rounds_doings, first_slot, AreInRange, IsCarried, FilmPlay}
+use Rattle.connection_laws.proofs.Terms.{AreInRange}
 use Rattle.connection_laws.proofs.AdmittedStarts.{asked_start}
 use Rattle.connection_laws.proofs.RequestedPlays.{asked_played, asked_play, asked_served}
 use Rattle.connection_laws.proofs.WatchedFilms.{watched_whole, watched_done, watched_unrefused}
@@ -20,15 +19,13 @@ returns-clause-played c = λ wish stored course watched heard out wished played 
 pub returns-clause-asked : goal.returns-clause-asked
 returns-clause-asked c = λ wish stored course watched heard out asked client carried.
     let played = asked_played asked in
-    let C : FilmPlay → Type 0 = λ play.
-    IsCarried (rounds_doings course.rounds) heard play.start (first_slot client.mid.history) in
     watched_whole wish stored watched out (record {
       course = course;
       heard = heard;
       wished = asked.wished;
       played = played.0;
       client = client;
-      carried = subst C (sym played.1) carried;
+      carried = rw played.1 carried;
     })
 
 pub returns-clause-unrefused : goal.returns-clause-unrefused
@@ -56,10 +53,8 @@ returns-clause-asked_done c = λ wish stored course end heard out asked range cl
     let its = c.law_whole_film_ends_in_done.ensures in
     let clauses = film_clauses its.frame its.done in
     let served = asked_served asked range clauses in
-    let C : FilmPlay → Type 0 = λ play.
-    IsCarried (rounds_doings course.rounds) heard play.start (first_slot client.mid.history) in
     watched_done served (record { end = end; heard = heard; out = out; client = client }) asked.wished delivered decided
-    (subst C (asked_play asked range clauses) carried)
+    (rw (asked_play asked range clauses) at carried)
 
 pub returns-clause-served_done : goal.returns-clause-served_done
 returns-clause-served_done c =
