@@ -59,7 +59,8 @@ counted-once steps state maker (Look slot) (Looked now at booked) is = record { 
 counted-once steps state maker _ _ is = absurd is
 
 record AreCounted (entries : List Entry) : Type 0 where
-  plays : count_by (λ (e : Entry). is_admission e.answer) entries + count_by (λ (e : Entry). is_overflow e.answer) entries
+  plays : count_by (λ (e : Entry). is_admission e.answer) entries
+      + count_by (λ (e : Entry). is_overflow e.answer) entries
       ≡ count_by (λ (e : Entry). is_play e.command) entries
   halts : count_by (λ (e : Entry). is_halted e.answer) entries ≡ count_by (λ (e : Entry). is_halt e.command) entries
 

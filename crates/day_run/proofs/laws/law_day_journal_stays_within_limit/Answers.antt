@@ -4,14 +4,14 @@ use Rattle.day_run.proofs.LineOutcomes.{taken-ready}
 use Rattle.day_run.proofs.ScriptLines.{LinesTaken}
 use Rattle.day_run.proofs.laws.law_day_journal_stays_within_limit.Goals as goal
 
-pub returns-clause-lines : goal.returns-clause-lines
-returns-clause-lines c = λ link sources lines texts moment clients are run.
-    let taken : LinesTaken link sources =
-    record { lines = lines; texts = texts; moment = moment; clients = clients; are = are; run = run } in
-    taken-places taken
-
-pub returns-clause-end : goal.returns-clause-end
-returns-clause-end c = λ link sources lines texts moment clients are run.
-    let taken : LinesTaken link sources =
-    record { lines = lines; texts = texts; moment = moment; clients = clients; are = are; run = run } in
-    omega (arith, last-places moment (taken-ready taken), taken-places taken)
+pub returns : goal.returns
+returns c = record {
+  lines = λ link sources lines texts moment clients are run.
+      let taken : LinesTaken link sources =
+      record { lines = lines; texts = texts; moment = moment; clients = clients; are = are; run = run } in
+      taken-places taken;
+  end = λ link sources lines texts moment clients are run.
+      let taken : LinesTaken link sources =
+      record { lines = lines; texts = texts; moment = moment; clients = clients; are = are; run = run } in
+      omega (arith, last-places moment (taken-ready taken), taken-places taken);
+}

@@ -4,18 +4,16 @@ use Rattle.day_run.proofs.ScriptLines.{LinesTaken}
 use Rattle.day_run.proofs.SlotBalance.{last-halted}
 use Rattle.day_run.proofs.laws.law_entries_have_their_makers.Goals as goal
 
-pub returns-clause-line : goal.returns-clause-line
-returns-clause-line c = λ link line old new text is.
-    line-made (record { link = link; old = old; new = new; text = text }) line is
-
-pub returns-clause-halts : goal.returns-clause-halts
-returns-clause-halts c = λ link sources lines texts moment clients are run.
-    let taken : LinesTaken link sources =
-    record { lines = lines; texts = texts; moment = moment; clients = clients; are = are; run = run } in
-    (taken-ready taken).balanced.halts.own
-
-pub returns-clause-end : goal.returns-clause-end
-returns-clause-end c = λ link sources lines texts moment clients are run.
-    let taken : LinesTaken link sources =
-    record { lines = lines; texts = texts; moment = moment; clients = clients; are = are; run = run } in
-    (last-halted moment (taken-ready taken).balanced).balanced.halts.own
+pub returns : goal.returns
+returns c = record {
+  line = λ link line old new text is.
+      line-made (record { link = link; old = old; new = new; text = text }) line is;
+  halts = λ link sources lines texts moment clients are run.
+      let taken : LinesTaken link sources =
+      record { lines = lines; texts = texts; moment = moment; clients = clients; are = are; run = run } in
+      (taken-ready taken).balanced.halts.own;
+  end = λ link sources lines texts moment clients are run.
+      let taken : LinesTaken link sources =
+      record { lines = lines; texts = texts; moment = moment; clients = clients; are = are; run = run } in
+      (last-halted moment (taken-ready taken).balanced).balanced.halts.own;
+}

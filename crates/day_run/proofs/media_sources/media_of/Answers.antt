@@ -23,9 +23,9 @@ returns-in-Film-clause-playable c =
       picture_units_fit = omega (arith, time.1);
     })
 
-pub returns-in-Trace-clause-content : goal.returns-in-Trace-clause-content
-returns-in-Trace-clause-content c = trace-medium c.args.source.now c.trace.result (λ u.
-    ap (trace_content u) c.deref.ensures.value ∙ sym (ap (source_content u) c.in-Trace.is)) c.trace.ensures.content
-
-pub returns-in-Trace-clause-playable : goal.returns-in-Trace-clause-playable
-returns-in-Trace-clause-playable c = trace-playable c.trace.result c.in-Trace.is c.requires
+pub returns-in-Trace : goal.returns-in-Trace
+returns-in-Trace c = record {
+  content = trace-medium c.args.source.now c.trace.result (λ u.
+      ap (trace_content u) c.deref.ensures.value ∙ sym (ap (source_content u) c.in-Trace.is)) c.trace.ensures.content;
+  playable = trace-playable c.trace.result c.in-Trace.is c.requires;
+}

@@ -1,4 +1,4 @@
-use Rattle.std.proofs.Common.{◌≡◌, min, length, ap, refl, inl, inr, ◌∙◌, arith}
+use Rattle.std.proofs.Common.{◌≡◌, min, length, ap, refl, inl, inr, ◌∙◌, arith, rules}
 use Rattle.admission.specs.declared.entries.Command.TheVariants.{Look}
 use Rattle.admission.specs.declared.entries.Entry.{Entry}
 use Rattle.admission.specs.Books.{Journal}
@@ -10,45 +10,44 @@ use Rattle.day_run.proofs.JournalStepLemmas.{day-noted, looked-now}
 use Rattle.day_run.proofs.LineStepLemmas.{noted}
 use Rattle.day_run.proofs.machine.DayMachine.look.Goals as goal
 
-pub returns-in-Ok-clause-machine : goal.returns-in-Ok-clause-machine
-returns-in-Ok-clause-machine c =
-    let old = c.args.self.now in
-    let noted = c.in-Ok.ensures.noted in
-    let e : Entry = record { maker = 0; command = Look (min c.args.slot LATEST_SLOT); answer = c.in-Ok.noted.answer } in
-    let now = looked-now old.book.entries e (min c.args.slot LATEST_SLOT) refl in
-    day-noted old c.requires.machine (record {
-      e = e;
-      entries_are = ap (λ (j : Journal). j.entries) noted.journal_is;
-      none = λ number halts. halts;
-      now = omega (arith, now, c.requires.machine.now_heard);
-    })
-
-pub returns-in-Ok-clause-line : goal.returns-in-Ok-clause-line
-returns-in-Ok-clause-line c =
+pub returns-in-Ok : goal.returns-in-Ok
+returns-in-Ok c =
     let old = c.args.self.now in
     let made = c.in-Ok.ensures.noted in
-    let e : Entry = record { maker = 0; command = Look (min c.args.slot LATEST_SLOT); answer = c.in-Ok.noted.answer } in
-    inr (record {
-      room = c.in-Ok.ensures.room;
-      answer = c.in-Ok.noted.answer;
-      noted = noted (record {
-        made = e;
-        is = refl;
-        answered = made.answer_is;
-        place = c.in-Ok.noted.place;
-        place_is = made.place_is;
-        entries_are = ap (λ (j : Journal). j.entries) made.journal_is;
-        states_are = refl;
-        heard_is = refl;
+    let slot = min c.args.slot LATEST_SLOT in
+    let e : Entry = record { maker = 0; command = Look slot; answer = c.in-Ok.noted.answer } in
+    let y = ap (λ (j : Journal). j.entries) made.journal_is in
+    let now = looked-now old.book.entries e slot refl in
+    record {
+      machine = day-noted old c.requires.machine (record {
+        e = e;
+        entries_are = y;
+        none = λ number halts. halts;
+        now = omega (arith, now, c.requires.machine.now_heard);
       });
-    })
+      kept = search rules;
+      heard = search rules;
+      line = inr (record {
+        room = c.in-Ok.ensures.room;
+        answer = c.in-Ok.noted.answer;
+        noted = noted (record {
+          made = e;
+          is = refl;
+          answered = made.answer_is;
+          place = c.in-Ok.noted.place;
+          place_is = made.place_is;
+          entries_are = y;
+          states_are = refl;
+          heard_is = refl;
+        });
+      });
+    }
 
 pub returns-in-Err-clause-line : goal.returns-in-Err-clause-line
 returns-in-Err-clause-line c =
     let old = c.args.self.now in
     let counts : c.in-Err.full ≡ full_of old.book.entries =
-    ap (λ n. record { entries = n; live = c.in-Err.full.live }) c.in-Err.ensures.counts.entries_are
-    ∙ ap (λ n. record { entries = length old.book.entries; live = n }) c.in-Err.ensures.counts.open_is in
+    grind (arith, c.in-Err.ensures.counts) in
     inl (record {
       full = c.in-Err.ensures.full;
       told = record {

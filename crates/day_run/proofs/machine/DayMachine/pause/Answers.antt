@@ -1,5 +1,5 @@
 use Rattle.std.proofs.lemmas.Grind.{common_steps}
-use Rattle.std.proofs.Common.{◌≡◌, ◌<◌, ◌∙◌, ℕ, length, map, set, ap, refl, sym, subst, arith}
+use Rattle.std.proofs.Common.{◌≡◌, ◌<◌, ◌∙◌, ℕ, length, map, set, ap, refl, sym, subst, arith, rules}
 use Rattle.std.proofs.lemmas.List.{set-get_or}
 use Rattle.admission.specs.declared.entries.Answer.TheVariants.{Halted}
 use Rattle.admission.specs.declared.entries.Command.TheVariants.{Halt}
@@ -29,84 +29,85 @@ timed : (c : After-pause) → IsTimed c.args.self.now.heard c.index_mut.result.n
 timed c = subst (IsTimed c.args.self.now.heard) (sym c.index_mut.ensures.value)
     (c.requires.machine.timed.each c.args.client c.index_mut.result.now (inside c))
 
-pub returns-in-Some-clause-machine : goal.returns-in-Some-clause-machine
-returns-in-Some-clause-machine c =
+pub returns-in-Some : goal.returns-in-Some
+returns-in-Some c =
+    let here = (goal.at.returns-in-Some c).After-pause in
     let old = c.args.self.now in
     let day = c.requires.machine in
     let halt = c.in-Some.halt in
     let client = c.index_mut.result.now in
-    let here = (goal.at.returns-in-Some-clause-machine c).After-pause in
-    let its = open-halt client (record {
-      going = subst IsGoing (sym c.index_mut.ensures.value) (day.going.each c.args.client client (inside here));
-      booked = subst (IsBooked old.book.entries c.args.client) (sym c.index_mut.ensures.value)
-          (day.booked.each c.args.client client (inside here));
-    }) c.in-Some.ensures.some in
-    let e : Entry =
-    record { maker = c.from.result; command = Halt halt.number halt.keep; answer = c.halt-noted.result.answer } in
-    day-halted old day (record {
-      halt = record { e = e; number = halt.number; keep = halt.keep; command = refl; its = its };
-      entries_are = ap (λ (j : Journal). j.entries) c.halt-noted.ensures.noted.journal_is;
-      going = c.pause.ensures.going;
-      undone = c.pause.ensures.undone;
-      quiet = c.in-Some.ensures.quiet;
-      timed = c.pause.ensures.timed old.heard (timed here);
-    })
-
-pub returns-in-Some-clause-line : goal.returns-in-Some-clause-line
-returns-in-Some-clause-line c =
-    let old = c.args.self.now in
-    let halt = c.in-Some.halt in
-    let client = c.index_mut.result.now in
     let next = c.pause.new.self in
-    let here = (goal.at.returns-in-Some-clause-line c).After-pause in
-    let new : DayState =
-    record {
+    let made = c.halt-noted.ensures.noted in
+    let e : Entry = entry_by c.from.result (Halt halt.number halt.keep) c.halt-noted.result.answer in
+    let y = ap (λ (j : Journal). j.entries) made.journal_is in
+    let new : DayState = record {
       entries = c.halt-noted.new.self.entries;
       states = map state_of (set old.clients.items c.args.client next);
       heard = old.heard;
     } in
-    let made = c.halt-noted.ensures.noted in
-    let e : Entry =
-    record { maker = c.from.result; command = Halt halt.number halt.keep; answer = c.halt-noted.result.answer } in
-    let text = reply_text c.halt-noted.new.self.entries (tolds.Entry c.halt-noted.result.place) in
+    let text = reply_text new.entries (tolds.Entry c.halt-noted.result.place) in
     let P : ClientState → Type 0 = λ s. IsPauseLine (link_on old) c.args.client s (day_state_of old) new text in
     let its = paused-play client next (c.in-Some.ensures.pause old.heard (timed here)) in
     let N : ℕ → Type 0 = λ n. IsNoted (link_on old) (entry_by c.args.client (Halt n halt.keep) Halted)
     (set (map state_of old.clients.items) c.args.client (state_of next)) (day_state_of old) new text in
-    subst P (sym (ap state_of its.client_is) ∙ at here) (record {
-      keep = halt.keep;
-      state = state_of next;
-      pause = its.pause;
-      noted = subst N its.number_is (noted {link = link_on old} {old = day_state_of old} {new = new} (record {
-        made = e;
-        is = ap (λ n. record { maker = n; command = e.command; answer = e.answer }) c.from.ensures
-            ∙ ap (entry_by c.args.client e.command) c.halt-noted.ensures.answer;
-        answered = made.answer_is;
-        place = c.halt-noted.result.place;
-        place_is = made.place_is;
-        entries_are = ap (λ (j : Journal). j.entries) made.journal_is;
-        states_are = states-set old.clients.items c.args.client next;
-        heard_is = refl;
-      }));
-    })
+    record {
+      machine = day-halted old day (record {
+        halt = record {
+          e = e;
+          number = halt.number;
+          keep = halt.keep;
+          command = refl;
+          its = open-halt client (record {
+            going = subst IsGoing (sym c.index_mut.ensures.value) (day.going.each c.args.client client (inside here));
+            booked = subst (IsBooked old.book.entries c.args.client) (sym c.index_mut.ensures.value)
+                (day.booked.each c.args.client client (inside here));
+          }) c.in-Some.ensures.some;
+        };
+        entries_are = y;
+        going = c.pause.ensures.going;
+        undone = c.pause.ensures.undone;
+        quiet = c.in-Some.ensures.quiet;
+        timed = c.pause.ensures.timed old.heard (timed here);
+      });
+      kept = search rules;
+      heard = search rules;
+      line = subst P (sym (ap state_of its.client_is) ∙ at here) (record {
+        keep = halt.keep;
+        state = state_of next;
+        pause = its.pause;
+        noted = subst N its.number_is (noted {link = link_on old} {old = day_state_of old} {new = new} (record {
+          made = e;
+          is = cc (c.from.ensures, c.halt-noted.ensures.answer);
+          answered = made.answer_is;
+          place = c.halt-noted.result.place;
+          place_is = made.place_is;
+          entries_are = y;
+          states_are = states-set old.clients.items c.args.client next;
+          heard_is = refl;
+        }));
+      });
+    }
 
-pub returns-in-None-clause-line : goal.returns-in-None-clause-line
-returns-in-None-clause-line c =
+pub returns-in-None : goal.returns-in-None
+returns-in-None c =
     let old = c.args.self.now in
     let client = c.index_mut.result.now in
+    let clients = set old.clients.items c.args.client c.pause.new.self in
     let step : LineStep = record {
       link = link_on old;
       old = day_state_of old;
-      new = record (day_state_of old) { states = map state_of (set old.clients.items c.args.client c.pause.new.self) };
+      new = record (day_state_of old) { states = map state_of clients };
       text = reply_text old.book.entries tolds.State;
     } in
-    let same : set old.clients.items c.args.client c.pause.new.self ≡ old.clients.items =
+    let same : clients ≡ old.clients.items =
     ap (set old.clients.items c.args.client) (c.in-None.ensures.none ∙ c.index_mut.ensures.value)
     ∙ set-get_or old.clients.items c.args.client client in
     let P : ClientState → Type 0 = λ s. IsPauseLine step.link c.args.client s step.old step.new step.text in
-    subst P (at (goal.at.returns-in-None-clause-line c).After-pause)
-    (no-pause step c.args.client client c.in-None.ensures.idle
-    (record { kept = ap (λ l. record (day_state_of old) { states = map state_of l }) same; text_is = refl }))
-
-pub returns-in-None-clause-machine : goal.returns-in-None-clause-machine
-returns-in-None-clause-machine c = grind (arith, common_steps)
+    record {
+      machine = grind (arith, common_steps);
+      kept = search rules;
+      heard = search rules;
+      line = subst P (at (goal.at.returns-in-None c).After-pause)
+          (no-pause step c.args.client client c.in-None.ensures.idle
+          (record { kept = ap (λ l. record (day_state_of old) { states = map state_of l }) same; text_is = refl }));
+    }
