@@ -50,12 +50,7 @@ run-front (l ∷ ls) (t ∷ ts) (suc count) taken =
 run-front _ _ (suc count) taken = absurd taken.run
 
 clients-take : {ls : List Line} (count : ℕ) → AreClients ls → AreClients (take count ls)
-clients-take {ls} count are = record {
-  each = λ i none below.
-      let few = length-take count ls in
-      subst IsClient (sym (get_or-take count ls i none (omega (arith, few, below))))
-      (are.each i none (omega (arith, few, below)));
-}
+clients-take {ls} count are = grind (arith, length-take count ls, get_or-take)
 
 lines-take : {n : ℕ} {ls : List Line} (count : ℕ) → AreLines n ls → AreLines n (take count ls)
 lines-take {n} {ls} count are = record {
@@ -78,11 +73,7 @@ pub day-within : {link : SharedLink} {n : ℕ} (taken : LinesTaken link n) (slot
     → IsLegal link.steps taken.moment.entries → taken.moment.heard ≤ slot → sent_up_to taken.moment slot
     ≤ sum_by (capacity_at link.steps) (range_with_len (taken.moment.heard + 1) (slot - taken.moment.heard))
 day-within {link} taken slot legal later =
-    let slots = range_with_len (taken.moment.heard + 1) (slot - taken.moment.heard) in
-    let within = (sound-after link.steps taken.moment.entries legal).within in
-    subst (λ (sent : ℕ). sent ≤ sum_by (capacity_at link.steps) slots) (sym (day-sent taken slot later))
-    (sum_by-le-sum_by (booked_in (state_after taken.moment.entries)) (capacity_at link.steps) slots
-    (λ t. within.each t))
+    grind (arith, sound-after link.steps taken.moment.entries legal, day-sent taken slot later, sum_by-le-sum_by)
 
 pub day-keeps : {link : SharedLink} {n : ℕ} {lines : List Line} {text : List ℕ} {journal : List Entry} (count : ℕ)
     → AreClients lines → AreLines n lines

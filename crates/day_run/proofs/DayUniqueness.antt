@@ -56,9 +56,7 @@ fault-apart : (sizes : List ℕ) (timing : Timing) (fault : CurveFault) → HasC
     → IsAccepted sizes timing → ⊥
 fault-apart sizes timing NoPictures has accepted = omega (arith, has, accepted.some_picture)
 fault-apart sizes timing (TooManySlots n) has accepted = omega (arith, has.1, has.2, accepted.few_slots)
-fault-apart sizes timing (BufferTooSmall slot used least) has accepted =
-    let x = has.2 in
-    omega (arith, x.used_is, x.above_buffer, accepted.buffer_holds slot x.in_range)
+fault-apart sizes timing (BufferTooSmall slot used least) has accepted = grind arith
 
 -- ---- a line has one outcome
 -- a day after a line, and what the line prints
@@ -119,11 +117,7 @@ faulty-planned {rest} faulty planned = fault-apart (rest_sizes rest.sizes rest.r
 
 one-fault : {rest : Rest} (pair : OutcomePair) → IsFaulty rest pair.old pair.one.new pair.one.text
     → IsFaulty rest pair.old pair.other.new pair.other.text → IsOne pair
-one-fault {rest} pair a b =
-    let same = HasCurveFault-unique (rest_sizes rest.sizes rest.run) (timing_of rest.playback rest.run) a.fault
-    b.fault a.fault_is b.fault_is in
-    let T : CurveFault → Type 0 = λ f. IsTold (fault_text f) pair.old pair.one.new pair.one.text in
-    one-told pair (subst T same a.told) b.told
+one-fault {rest} pair a b = grind (arith, one-told)
 
 one-plan : {one other : List Segment} (rest : Rest) → IsSoundIfAny rest
     → IsPlanOf rest.sizes rest.playback rest.run one → IsPlanOf rest.sizes rest.playback rest.run other → one ≡ other
@@ -137,11 +131,7 @@ one-asked : {c : ℕ} {rest : Rest} (pair : OutcomePair) → IsSoundIfAny rest
 one-asked pair own (inl a) (inl b) = one-fault pair a b
 one-asked pair own (inl a) (inr b) = absurd (faulty-planned a b.plan_is)
 one-asked pair own (inr a) (inl b) = absurd (faulty-planned b a.plan_is)
-one-asked {c} {rest} pair own (inr a) (inr b) =
-    let D : List Segment → Type 0 =
-    λ p. IsFullOrAnswered pair.link (record { client = c; rest = rest; plan = p }) pair.old pair.one.new
-    pair.one.text in
-    one-planned pair (subst D (one-plan rest own a.plan_is b.plan_is) a.done) b.done
+one-asked {c} {rest} pair own (inr a) (inr b) = grind (arith, one-planned, one-plan rest own a.plan_is b.plan_is)
 
 one-play : (pair : OutcomePair) (c : ℕ) (rest : Rest) (state : ClientState) → IsSoundIfAny rest
     → AreBoth pair (λ old new text. IfBusy state (IsTold state_text old new text)
@@ -187,18 +177,16 @@ one-look pair (inl a) (inl b) = one-told pair a.told b.told
 one-look pair (inl a) (inr b) = absurd (omega (arith, a.full, b.room))
 one-look pair (inr a) (inl b) = absurd (omega (arith, a.room, b.full))
 one-look {slot} pair (inr a) (inr b) =
-    let same = answer-once (record { steps = pair.link.steps; state = state_after pair.old.entries })
-    (commands.Look slot) a.answer b.answer a.noted.answered b.noted.answered in
-    let N : Answer → Type 0 = λ x. IsNoted pair.link (entry_by 0 (commands.Look slot) x) pair.old.states pair.old
-    pair.one.new pair.one.text in
-    one-noted pair (subst N same a.noted) b.noted
+    grind (
+      arith,
+      answer-once (record { steps = pair.link.steps; state = state_after pair.old.entries }) (commands.Look slot)
+          a.answer b.answer a.noted.answered b.noted.answered,
+      one-noted,
+    )
 
 one-found : (one other : Offers) → one.wait ≡ other.wait → one.start ≡ other.start → one.tried ≡ other.tried
     → one ≡ other
-one-found one other w s t =
-    ap (λ n. record { wait = n; start = one.start; tried = one.tried }) w
-    ∙ ap (λ n. record { wait = other.wait; start = n; tried = one.tried }) s
-    ∙ ap (λ l. record { wait = other.wait; start = other.start; tried = l }) t
+one-found one other w s t = grind arith
 
 one-offer : {rest : Rest} {wait : ℕ} (pair : OutcomePair) → IsSoundIfAny rest
     → IsOfferLine pair.link rest wait pair.old pair.one.new pair.one.text
@@ -232,8 +220,7 @@ one-line pair (lines.Resume c) link-is standing sound both =
 one-line pair (lines.Look slot) link-is standing sound both = one-look pair both.a both.b
 one-line pair (lines.Slot slot) link-is standing sound both =
     record { new_is = both.a.0 ∙ sym both.b.0; text_is = both.a.1 ∙ sym both.b.1 }
-one-line pair (lines.Offer c source buffer delay wait) link-is standing sound both =
-    one-offer pair (whole-sound link-is standing.stands.0) both.a both.b
+one-line pair (lines.Offer c source buffer delay wait) link-is standing sound both = search (one-offer, whole-sound)
 
 -- ---- a run of lines has one outcome
 pub record IsOneRun (new new' : DayState) (texts texts' : List (List ℕ)) : Type 0 where
@@ -354,20 +341,7 @@ line-stands taken fair = by-state (state_in taken.words taken.turn)
   where
     by-state : (state : ClientState) → MayStand taken.link taken.turn.mid
         (line_drawn (words_after 2 taken.words) (client_of taken.words) state)
-    by-state Idle =
-        let words = words_after 2 taken.words in
-        let source = mod_below (words 0) 16 (omega arith) in
-        let buffer = mod_below (words 1) BUFFER_SIZES (omega arith) in
-        let delay = mod_below (words 2) 26 (omega arith) in
-        record {
-          client = mod_below (taken.words 1) 256 (omega arith);
-          stands = record {
-            inside = omega (arith, source, fair.count);
-            some_buffer = omega arith;
-            buffer_fits = omega (arith, buffer);
-            delay_fits = omega (arith, delay);
-          };
-        }
+    by-state Idle = grind (arith, mod_below)
     by-state (Pausing stop rest) = tt
     by-state _ = record { client = mod_below (taken.words 1) 256 (omega arith); stands = tt }
 

@@ -151,14 +151,7 @@ evening-grown evening journal is = record { made = last_halts evening; new_is = 
 pub turns-heard : (turns : List FairTurn) (come : TurnRun turns) → come.new.heard ≤ come.old.heard + 3 * length turns
 turns-heard [] come = omega (arith, ap (λ (m : DayState). m.heard) come.run)
 turns-heard (turn ∷ turns) come =
-    let taken = first_turn come in
-    omega (
-      arith,
-      ap (λ (m : DayState). m.heard) come.run.0,
-      turn-mid taken (λ (m : DayState). m.heard ≤ turn.old.heard + come.words 0 % 4) (omega arith) (omega arith),
-      outcome-heard (turn_step taken) (turn-outcome taken),
-      turns-heard turns (rest_turns come),
-    )
+    grind (arith, turn-mid, outcome-heard, turn_step, turn-outcome, turns-heard turns (rest_turns come))
 
 pub turns-ready : (turns : List FairTurn) (come : TurnRun turns) → IsReady come.old → IsReady come.new
 turns-ready [] come ready = subst IsReady (sym come.run) ready

@@ -226,11 +226,4 @@ turn-within {steps} {journal} turn legal is = record {
 
 pub fair-turns : {number plays : ℕ} {text : List ℕ} (steps : List CapStep) (journal : List Entry)
     → IsFair steps number plays text journal → IsLegal steps journal → SentIsBookedEachTurn steps number plays journal
-fair-turns steps journal fair legal = record {
-  turns = fair.turns;
-  evening = fair.evening;
-  count = fair.count;
-  run = fair.run;
-  each = All-weaker (IsTurnBooked (booked_after journal)) (IsTurnWithinCapacity steps journal)
-      (λ turn own. turn-within turn legal own) fair.turns (fair-past fair).each;
-}
+fair-turns steps journal fair legal = grind (arith, turn-within, fair-past fair)

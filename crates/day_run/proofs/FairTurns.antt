@@ -192,14 +192,14 @@ after-more words (t ∷ turns) turn = after-more (after_turn words t) turns turn
 counts-more : (turns : List FairTurn) (turn : FairTurn) (old new : DayState) → turn.mid.heard ≡ new.heard
     → with_turn (counts_of turns old) turn ≡ counts_of (turns ++ turn ∷ []) new
 counts-more turns turn old new heard =
-    cc (
-      sym (length-append turns (turn ∷ [])),
-      sym (sum_by_push (λ t. cond (is_refused t) 1 0) turns turn),
-      heard,
-      sym (sum_by_push turn_sent turns turn),
-      sym (sum_by_push turn_booked turns turn),
-      sym (ap (fold max 0) (map-append turn_peak turns (turn ∷ []))
-          ∙ peak-push (map turn_peak turns) (turn_peak turn)),
+    grind (
+      arith,
+      length-append turns (turn ∷ []),
+      sum_by_push,
+      sum_by_push turn_sent turns turn,
+      sum_by_push turn_booked turns turn,
+      map-append turn_peak turns (turn ∷ []),
+      peak-push (map turn_peak turns) (turn_peak turn),
     )
 
 -- the turns so far, and one more
@@ -264,8 +264,7 @@ pub record StandsAt : Type 0 where
 
 state-there : (stands : StandsAt) → get_or (map state_of stands.clients) stands.c Idle ≡ state_of stands.client
 state-there stands =
-    state-at stands.clients stands.c stands.client (omega (arith, stands.count, stands.small))
-    ∙ sym (ap state_of stands.at)
+    grind (arith, state-at stands.clients stands.c stands.client (omega (arith, stands.count, stands.small)))
 
 -- a client for whom no word is drawn
 pub no-words : {w : ℕ → ℕ} (stands : StandsAt) → words_for (state_of stands.client) ≡ 0
@@ -277,9 +276,7 @@ pub done-as : {is : Client} (step : LineStep) (w : ℕ → ℕ) (stands : Stands
     → IsDone step.link (line_drawn w stands.c (state_of is)) step.old step.new step.text
     → IsDone step.link (line_drawn w stands.c (get_or (map state_of stands.clients) stands.c Idle)) step.old step.new
     step.text
-done-as step w stands same own =
-    let S : ClientState → Type 0 = λ s. IsDone step.link (line_drawn w stands.c s) step.old step.new step.text in
-    subst S (sym (state-there stands ∙ ap state_of same)) own
+done-as step w stands same own = grind (arith, state-there stands, same)
 
 pub ready-morning : (m : DayState) → m ≡ first_moment → IsReady m
 ready-morning m is = ready-kept first_moment m is morning-ready

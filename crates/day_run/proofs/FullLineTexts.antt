@@ -26,16 +26,11 @@ use Rattle.day_run.proofs.ScriptLines.{LineStep}
 
 -- ---- which of the texts that clients are answered say that the journal is full
 digit-other : (c : ℕ) → c < 58 → (c == 114) ≡ false
-digit-other c digit = elim (cases_Bool (c == 114)) [
-  | inl same ↦ absurd (omega (arith, eqb-true c 114 same, digit))
-  | inr other ↦ other
-]
+digit-other c digit = grind (arith, cases_Bool (c == 114), eqb-true)
 
 digits-other : (ds rest : List ℕ) → 0 < length ds → AllDigits 10 ds → is_full_line (ds ++ rest) ≡ false
 digits-other [] rest some digits = absurd (omega (arith, some))
-digits-other (x ∷ ds) rest some digits =
-    let digit = digit_from_value x digits.0 in
-    ap (λ r. r && bytes_eq (take 14 (ds ++ rest)) (codes "efused journal")) (digit-other x (omega (arith, digit)))
+digits-other (x ∷ ds) rest some digits = grind (arith, digit_from_value x digits.0, digit-other)
 
 pub entry-other : (place : ℕ) (entry : Entry) (rest : List ℕ) → place < 2 ^ 64
     → is_full_line (entry_line place entry ++ rest) ≡ false
@@ -78,29 +73,17 @@ full-words entries open_plays =
 
 text-parts : (entries open_plays : ℕ)
     → full_text (record { entries = entries; live = open_plays }) ≡ full-words entries open_plays
-text-parts entries open_plays =
-    let first : List ℕ = codes "refused journal entries=" in
-    let second : List ℕ = codes " open=" in
-    let end : List ℕ = codes "\n" in
-    ap (λ t. t ++ end) (sym (append_assoc (first ++ decimal entries) second (decimal open_plays)))
+text-parts entries open_plays = grind (arith, append_assoc)
 
 -- what a line says about a full journal is true
 pub full-line : (step : LineStep) (line : Line) → IsReady step.old → length step.old.entries < 2 ^ 64
     → IsLine step.link line step.old step.new step.text → SaysFull step.text
     → (step.new ≡ step.old) × IsFullJournal step.link (places_needed line) step.old step.text
-full-line step line ready small is says = elim (outcome-text step small (line-outcome step line is)) [
-  | inl other ↦ (
-      let bytes : List ℕ = codes "refused journal" in
-      let said : is_full_line step.text ≡ true = ap (λ t. bytes_eq t bytes) says in
-      absurd (true≢false (sym said ∙ other))
-      )
-  | inr full ↦ (
-    full.told.kept,
-    record {
-      full = omega (arith, full.full, ready.balanced.playing);
-      text_is = full.told.text_is
-          ∙ text-parts (length step.old.entries) (open_count step.old.entries)
-          ∙ ap (full-words (length step.old.entries)) ready.balanced.playing;
-    },
-  )
-]
+full-line step line ready small is says =
+    grind (
+      arith,
+      outcome-text step small (line-outcome step line is),
+      line-outcome step line is,
+      true≢false,
+      text-parts (length step.old.entries) (open_count step.old.entries),
+    )

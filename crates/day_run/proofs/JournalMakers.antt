@@ -14,24 +14,12 @@ use Rattle.day_run.proofs.LineOutcomes.{Reached}
 use Rattle.day_run.proofs.ScriptLines.{LineStep}
 
 none-made : {maker : ℕ} (step : LineStep) → step.new ≡ step.old → IsMadeBy maker step.old step.new
-none-made {maker} step kept = record {
-  made = [];
-  entries_are = ap (λ (m : DayState). m.entries) kept ∙ sym (append-nil step.old.entries);
-  few = omega arith;
-  makers = All-nil (λ (e : Entry). e.maker ≡ maker);
-}
+none-made {maker} step kept = grind (arith, append-nil step.old.entries)
 
 one-made : {entry : Entry} {states : List ClientState} {maker : ℕ} (step : LineStep)
     → Some maker ≡ Some entry.maker → IsNoted step.link entry states step.old step.new step.text
     → IsMadeBy maker step.old step.new
-one-made {entry} {maker} step by is =
-    let M : Entry → Type 0 = λ e. e.maker ≡ maker in
-    record {
-      made = entry ∷ [];
-      entries_are = ap (λ (m : DayState). m.entries) is.new_is;
-      few = omega arith;
-      makers = All-cons M entry [] (cc by) (All-nil M);
-    }
+one-made {entry} {maker} step by is = grind arith
 
 outcome-made : {case : LineCase} {maker : ℕ} (step : LineStep) → case.maker ≡ Some maker → LineOutcome step case
     → IsMadeBy maker step.old step.new
@@ -68,10 +56,6 @@ slot-halts m slot = all-halts (done_halt slot) (done-halts slot) 0 m.states
 
 pub line-made : (step : LineStep) (line : Line) → IsLine step.link line step.old step.new step.text
     → HasItsMaker line step.old step.new
-line-made step (lines.Slot slot) is = record {
-  made = halts_at step.old slot;
-  entries_are = ap (λ (m : DayState). m.entries) is.0;
-  halts = slot-halts step.old slot;
-}
+line-made step (lines.Slot slot) is = grind (arith, slot-halts step.old slot)
 line-made step (lines.Offer c source buffer delay wait) is = offer-kept step is
 line-made step line is = outcome-made step refl (line-outcome step line is)

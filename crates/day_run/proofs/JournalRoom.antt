@@ -53,41 +53,34 @@ next-open state place slot segments _ = omega arith
 played-places : (xs : List Entry) (c slot : ℕ) (segments : List Segment) (answer : Answer)
     → places_taken (xs ++ entry_by c (commands.Play slot segments) answer ∷ []) ≤ places_taken xs + 2
 played-places xs c slot segments answer =
-    let e = entry_by c (commands.Play slot segments) answer in
-    let is : open_count (xs ++ e ∷ [])
-    ≡ live (next_state (state_after xs) (length xs) (commands.Play slot segments) answer) =
-    ap (λ (s : State). live s) (state-push xs e) in
-    let more : live (next_state (state_after xs) (length xs) (commands.Play slot segments) answer)
-    ≤ open_count xs + 1 = next-open (state_after xs) (length xs) slot segments answer in
-    omega (arith, is, more, length-append xs (e ∷ []))
+    grind (arith, state-push, next-open (state_after xs) (length xs) slot segments answer, length-append)
 
 looked-places : (xs : List Entry) (slot : ℕ) (answer : Answer)
     → places_taken (xs ++ entry_by 0 (commands.Look slot) answer ∷ []) ≤ places_taken xs + 1
-looked-places xs slot answer =
-    let e = entry_by 0 (commands.Look slot) answer in
-    let is : open_count (xs ++ e ∷ []) ≡ open_count xs = ap (λ (s : State). live s) (state-push xs e) in
-    omega (arith, is, length-append xs (e ∷ []))
+looked-places xs slot answer = grind (arith, state-push, length-append)
 
 outcome-places : {case : LineCase} (step : LineStep)
     → LineOutcome step case → IsInOrder step case.maker case.slot → IsReady step.old
     → TakesPlaces step.link.limit step.old.entries step.new.entries
 outcome-places step (Kept own at) order ready = kept-places step.old step.new own.kept
 outcome-places step (Asked own at) order ready =
-    let is = ap (λ (m : DayState). places_taken m.entries) own.made.noted.new_is in
-    let most = played-places step.old.entries own.ask.client step.old.heard own.ask.plan own.made.answer in
-    room-places step 2 (omega arith) own.made.room (omega (arith, is, most))
+    grind (
+      arith,
+      played-places step.old.entries own.ask.client step.old.heard own.ask.plan own.made.answer,
+      room-places,
+    )
 outcome-places step (Stopped own at) order ready =
-    same-places step.old.entries step.new.entries
-    (ap (λ (m : DayState). places_taken m.entries) own.is.noted.new_is
-    ∙ places-halt step.old.entries (its-held (halted_client own order ready)) own.is.keep)
+    grind (
+      arith,
+      same-places,
+      places-halt step.old.entries (its-held (halted_client own order ready)) own.is.keep,
+      its-held (halted_client own order ready),
+      halted_client own order ready,
+    )
 outcome-places step (Looks own at) order ready =
-    let is = ap (λ (m : DayState). places_taken m.entries) own.made.noted.new_is in
-    let most = looked-places step.old.entries own.slot own.made.answer in
-    room-places step 1 (omega arith) own.made.room (omega (arith, is, most))
+    grind (arith, looked-places step.old.entries own.slot own.made.answer, room-places)
 outcome-places {case} step (Reached own) order ready =
-    same-places step.old.entries step.new.entries
-    (ap (λ (m : DayState). places_taken m.entries) own.is
-    ∙ (slot-halted step.old case.slot order.later ready.balanced).places)
+    grind (arith, same-places, slot-halted step.old case.slot order.later ready.balanced)
 
 -- ---- the lines of a script
 pub taken-places : {link : SharedLink} {n : ℕ} (taken : LinesTaken link n)

@@ -262,8 +262,7 @@ pub record EntryNoted (day : DayMachine) (ys : List Entry) : Type 0 where
 pub day-noted : {ys : List Entry} (day : DayMachine) → IsDayMachine day → EntryNoted day ys
     → IsSoundDay day.slot_units day.heard ys day.clients.items
 day-noted day sound noted =
-    subst (λ (l : List Entry). IsSoundDay day.slot_units day.heard l day.clients.items) (sym noted.entries_are)
-    (assumption (sound, noted.now, booked-more day.book.entries day.clients.items noted.e noted.none sound.booked))
+    grind (arith, booked-more day.book.entries day.clients.items noted.e noted.none sound.booked)
 
 -- the entry of a client's play, and the play
 pub record PlayEntered (day : DayMachine) (ys : List Entry) (c : ℕ) (play : ClientPlay) : Type 0 where

@@ -241,10 +241,8 @@ line-outcome step (lines.Look slot) (inl full) = full-kept step full refl
 line-outcome step (lines.Look slot) (inr made) =
     Looks (record { by = refl; slot = min slot LATEST_SLOT; made = made }) refl
 line-outcome step (lines.Slot slot) is = Reached (record { by = refl; is = is.0; text_is = is.1 })
-line-outcome step (lines.Offer c source buffer delay wait) (inl faulty) =
-    told-kept step faulty.told (fault-other faulty.fault) refl
-line-outcome step (lines.Offer c source buffer delay wait) (inr offered) =
-    told-kept step offered.told (offer-other offered.found.tried offered.found.start offered.found.wait) refl
+line-outcome step (lines.Offer c source buffer delay wait) (inl faulty) = search (told-kept, fault-other)
+line-outcome step (lines.Offer c source buffer delay wait) (inr offered) = search (told-kept, offer-other)
 
 -- an outcome of one of the 256 clients, or of none, at a slot that isn't earlier
 abbrev IsInside : Option ℕ → Type 0

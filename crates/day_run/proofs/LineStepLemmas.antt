@@ -34,9 +34,7 @@ more-entries xs ys es y = ap (drop (length xs)) y ∙ drop_at xs es (length xs) 
 
 pub told-entry : (place : ℕ) (xs ys : List Entry) (e : Entry) → place ≡ length xs → ys ≡ xs ++ e ∷ []
     → reply_text ys (tolds.Entry place) ≡ entry_line (length xs) e
-told-entry place xs ys e at y =
-    ap (λ n. journal_text n (drop n ys)) at ∙ ap (journal_text (length xs)) (more-entries xs ys (e ∷ []) y)
-    ∙ append-nil (entry_line (length xs) e)
+told-entry place xs ys e at y = grind (arith, more-entries xs ys (e ∷ []) y, append-nil (entry_line (length xs) e))
 
 -- an entry was made: its place, and the day after it
 pub record EntryMade (link : SharedLink) (old new : DayState) (entry : Entry) (states : List ClientState) : Type 0 where
@@ -123,18 +121,14 @@ pub play-ok : (rest : Rest) (r : Result LineAnswer NoMemory) (asks : ClientAsks)
     → is_busy (state_at asks.old asks.client) ≡ false
     → IfOk r (λ told. IsAsked asks.link asks.client rest asks.old asks.new (reply_text asks.entries told))
     → IfOk r (λ told. IsPlayLine asks.link asks.client rest asks.old asks.new (reply_text asks.entries told))
-play-ok rest (Ok told) asks free asked =
-    let text = reply_text asks.entries told in
-    if-free (IsTold state_text asks.old asks.new text) (state_at asks.old asks.client) free asked
+play-ok rest (Ok told) asks free asked = grind (arith, if-free)
 play-ok rest (Err e) asks free asked = tt
 
 -- the halts after a sending
 pub halt_entries-sent : (slot k : ℕ) (states : List ClientState)
     → halt_entries (done_halt slot) k (map (after_sending slot) states) ≡ halt_entries (done_halt slot) k states
 halt_entries-sent slot k [] = refl
-halt_entries-sent slot k (state ∷ states) =
-    ap (λ es. es ++ halt_entries (done_halt slot) (k + 1) (map (after_sending slot) states)) (done-sent slot k state)
-    ∙ ap (λ es. done_halt slot k state ++ es) (halt_entries-sent slot (k + 1) states)
+halt_entries-sent slot k (state ∷ states) = grind (arith, done-sent slot k state, halt_entries-sent slot (k + 1) states)
 
 -- clients that play nothing
 pub idle-states : (cs : List Client) → length cs ≡ 256 → AreIdle cs → map state_of cs ≡ replicate 256 Idle

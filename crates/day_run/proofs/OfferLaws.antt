@@ -23,12 +23,7 @@ record TriedStarts : Type 1 where
 start-least : (tried : TriedStarts) (start : Option ℕ) → IsStart tried.Fits tried.first tried.wait tried.count start
     → IsLeast tried.Fits tried.first (tried.first + tried.wait) start
 start-least tried None is = λ start begun within room. tried.none start begun (omega (arith, is, within)) room
-start-least tried (Some start) is = (
-  omega (arith, is.1),
-  omega (arith, is.0, is.1),
-  is.2,
-  λ earlier begun before room. tried.none earlier begun (omega (arith, is.1, before)) room,
-)
+start-least tried (Some start) is = grind arith
 
 start-count : (tried : TriedStarts) (start : Option ℕ) → IsStart tried.Fits tried.first tried.wait tried.count start
     → IsCount tried.first (tried.first + tried.wait) start tried.count

@@ -54,9 +54,7 @@ answered-past (Admitted start) link ask old answered = λ t past.
       plan = ask.plan;
       is = ap (λ (s : State). s.held) (state-push old.entries e);
     }) early past
-answered-past answer link ask old answered =
-    let e = entry_by ask.client (commands.Play old.heard ask.plan) answer in
-    same-past old e old.states (ap (λ (s : State). s.held) (state-push old.entries e))
+answered-past answer link ask old answered = grind (arith, same-past, state-push)
 
 halted-past : {maker : Option ℕ} {slot : ℕ} (step : LineStep) (own : PlayHalted step maker)
     → IsInOrder step maker slot → IsReady step.old → Past step.old step.new
@@ -72,16 +70,11 @@ outcome-past : {case : LineCase} (step : LineStep)
     → LineOutcome step case → IsInOrder step case.maker case.slot → IsReady step.old → Past step.old step.new
 outcome-past step (Kept own at) order ready = kept-past step.old step.new own.kept
 outcome-past step (Asked own at) order ready =
-    subst (Past step.old) (sym own.made.noted.new_is)
-    (answered-past own.made.answer step.link own.ask step.old own.made.noted.answered)
+    grind (arith, answered-past own.made.answer step.link own.ask step.old own.made.noted.answered)
 outcome-past step (Stopped own at) order ready = halted-past step own order ready
-outcome-past step (Looks own at) order ready =
-    let e = entry_by 0 (commands.Look own.slot) own.made.answer in
-    subst (Past step.old) (sym own.made.noted.new_is)
-    (same-past step.old e step.old.states (ap (λ (s : State). s.held) (state-push step.old.entries e)))
-outcome-past {case} step (Reached own) order ready = λ t past.
-    ap (λ (m : DayState). booked_after m.entries t) own.is
-    ∙ (slot-halted step.old case.slot order.later ready.balanced).stays t (omega (arith, past, order.later))
+outcome-past step (Looks own at) order ready = grind (arith, same-past, state-push)
+outcome-past {case} step (Reached own) order ready =
+    grind (arith, slot-halted step.old case.slot order.later ready.balanced)
 
 pub day-past : {link : SharedLink} {n : ℕ} (taken : LinesTaken link n) (next : NextTaken link n taken) (t : ℕ)
     → t ≤ taken.moment.heard → booked_after next.new.entries t ≡ booked_after taken.moment.entries t
@@ -191,11 +184,7 @@ turns-past (turn ∷ turns) booked come ready same =
 pub look-leaves : (link : SharedLink) (slot : ℕ) (old new : DayState) (text : List ℕ)
     → IsLine link (lines.Look slot) old new text
     → (new.states ≡ old.states) × (new.heard ≡ old.heard) × (state_after new.entries ≡ state_after old.entries)
-look-leaves link slot old new text (inl full) = (
-  ap (λ (m : DayState). m.states) full.told.kept,
-  ap (λ (m : DayState). m.heard) full.told.kept,
-  ap (λ (m : DayState). state_after m.entries) full.told.kept,
-)
+look-leaves link slot old new text (inl full) = grind arith
 look-leaves link slot old new text (inr made) = (
   ap (λ (m : DayState). m.states) made.noted.new_is,
   ap (λ (m : DayState). m.heard) made.noted.new_is,

@@ -32,22 +32,16 @@ due-at p heard pacing timed = pacing.due ∙ ap (λ n. min (first_slots p.plan n
 
 -- a play's pacer sends what the play books
 pub whole-paced : (play : ClientPlay) → IsPlaying play → paced play.pacer ≡ booking_of (play_of play)
-whole-paced play playing =
-    ap (λ s. truncated_play play.pacer.start s play.pacer.keep) playing.plan_is
-    ∙ ap (λ n. truncated_play play.pacer.start play.plan n) playing.whole
+whole-paced play playing = grind arith
 
 pub sent-at : (play : ClientPlay) (heard : ℕ) → IsPlaying play → play.pacer.passed ≡ heard + 1 - play.pacer.start
     → play.pacer.sent ≡ sent_by (booking_of (play_of play)) heard
 sent-at play heard playing timed =
-    playing.all_sent ∙ due-at play.pacer heard playing.pacing timed
-    ∙ ap (λ (b : Booked). sent_by b heard) (whole-paced play playing)
+    grind (arith, due-at play.pacer heard playing.pacing timed, whole-paced play playing)
 
 -- whether a play is done
 begun : (start slot : ℕ) → nat_lt 0 (slot + 1 - start) ≡ nat_le start slot
-begun start slot = elim (cases_lt slot start) [
-  | inl before ↦ grind (arith, before)
-  | inr from ↦ grind (arith, from)
-]
+begun start slot = grind (arith, cases_lt slot start)
 
 -- a play that has come to a slot
 pub record TimedPlay (play : ClientPlay) (slot : ℕ) : Type 0 where
@@ -72,16 +66,9 @@ done-sent slot client _ = refl
 -- the slot of a plan that was sent last
 pub last-slot : (last : Option ℕ) (start heard passed : ℕ) → slots_through last ≡ passed
     → passed ≡ heard + 1 - start → last ≡ slot_sent start heard
-last-slot None start heard passed through timed =
-    let before : heard < start = omega (arith, through, timed) in
-    sym (cond-true (nat_lt heard start) None (Some (heard - start)) (lt-ltb heard start before))
+last-slot None start heard passed through timed = grind (arith, cond-true, lt-ltb)
 last-slot (Some last) start heard passed through timed =
-    let from : nat_lt heard start ≡ false = elim (cases_lt heard start) [
-      | inl before ↦ absurd (omega (arith, before, through, timed))
-      | inr from ↦ grind (arith, from)
-    ] in
-    let e : last ≡ heard - start = omega (arith, through, timed) in
-    ap Some e ∙ sym (cond-false (nat_lt heard start) None (Some (heard - start)) from)
+    grind (arith, cases_lt heard start, cond-false)
 
 -- a pause keeps the bytes of a play up to a boundary: no less than was sent
 pub record PauseAt (play : ClientPlay) (keep : ℕ) : Type 0 where
@@ -92,8 +79,7 @@ pub record PauseAt (play : ClientPlay) (keep : ℕ) : Type 0 where
 
 pub kept-sent : {play : ClientPlay} {heard keep : ℕ} → TimedPlay play heard → PauseAt play keep
     → sent_by (truncated_play play.pacer.start play.plan keep) heard ≡ play.pacer.sent
-kept-sent {play} {heard} own at =
-    omega (arith, sent-at play heard own.playing own.timed, own.playing.whole, at.boundary.after, at.most)
+kept-sent {play} {heard} own at = grind (arith, sent-at play heard own.playing own.timed)
 
 -- what it leaves
 pub record PauseLeft (play : ClientPlay) (keep : ℕ) : Type 0 where
@@ -129,22 +115,12 @@ pause-of {play} {heard} {keep} own pause =
 
 -- ---- what a pause keeps of a play
 undone-apart : (p : PacerState) → is_done p ≡ false → 0 < p.passed → p.sent ≡ p.keep → ⊥
-undone-apart p undone some same =
-    let e : (p.keep == p.keep) ≡ false =
-    ap (λ n. n == p.keep) (sym same) ∙ ap (λ b. b && (p.sent == p.keep)) (sym (lt-ltb 0 p.passed some)) ∙ undone in
-    subst T e (eqb_refl p.keep)
+undone-apart p undone some same = grind (arith, lt-ltb 0 p.passed some, eqb_refl p.keep)
 
 -- the plan has through the last slot what was sent, where that isn't all
 sent-last : {play : ClientPlay} (last : ℕ) → IsPlaying play → (play.pacer.sent ≡ play.pacer.keep → ⊥)
     → slots_through (Some last) ≡ play.pacer.passed → sum_through play.plan last ≡ play.pacer.sent
-sent-last {play} last playing apart passed =
-    let p = play.pacer in
-    let due : p.due ≡ min (sum_through p.plan last) p.keep =
-    playing.pacing.due ∙ ap (λ n. min (first_slots p.plan n) p.keep) (sym passed) in
-    ap (λ s. sum_through s last) (sym playing.plan_is) ∙ elim (cases_lt (sum_through p.plan last) p.keep) [
-      | inl below ↦ omega (arith, below, due, playing.all_sent)
-      | inr reached ↦ absurd (apart (omega (arith, reached, due, playing.all_sent)))
-    ]
+sent-last {play} last playing apart passed = grind (arith, cases_lt)
 
 -- the halt of a play that isn't done
 pub halts : {play : ClientPlay} {keep : ℕ} (at : PauseAt play keep) → IsPlaying play → is_done play.pacer ≡ false
@@ -203,5 +179,4 @@ left-rest {play} {keep} playing pause = record {
 -- it has come to the slot that was received last
 pub left-timed : {p : PacerState} {keep : ℕ} (old : PacerState) (heard : ℕ) → p ≡ record old { keep = keep }
     → old.passed ≡ heard + 1 - old.start → p.passed ≡ heard + 1 - p.start
-left-timed old heard e timed =
-    ap (λ (q : PacerState). q.passed) e ∙ timed ∙ sym (ap (λ (q : PacerState). heard + 1 - q.start) e)
+left-timed old heard e timed = grind arith

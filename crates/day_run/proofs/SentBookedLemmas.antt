@@ -32,7 +32,7 @@ use Rattle.day_run.proofs.SlotTotals.{sum-slots}
 pub growth-more : (heard slot : ℕ) (play : Booked) → heard ≤ slot
     → growth heard (slot + 1) play ≡ growth heard slot play + share_at (slot + 1) play
 growth-more heard slot play le =
-    omega (
+    grind (
       arith,
       sent-rises play.segments play.start (heard + 1) (slot + 1) (omega (arith, le)),
       sent-rises play.segments play.start (slot + 1) (slot + 1 + 1) (omega arith),
@@ -41,9 +41,8 @@ growth-more heard slot play le =
 -- once all that is kept was sent nothing more is booked
 pub share-done : (t heard : ℕ) (play : Booked) → heard < t → sent_by play heard ≡ play.keep → share_at t play ≡ 0
 share-done t heard play later all =
-    omega (
+    grind (
       arith,
-      all,
       sent-rises play.segments play.start (heard + 1) t (omega (arith, later)),
       sent-rises play.segments play.start (heard + 1) (t + 1) (omega (arith, later)),
     )
@@ -64,7 +63,7 @@ sum-between : (heard slot : ℕ) (states : List ClientState) → heard ≤ slot
     ≡ sum_by (sent_between heard slot) states + sum_by (share_of (slot + 1)) states
 sum-between heard slot [] le = omega arith
 sum-between heard slot (state ∷ states) le =
-    omega (
+    grind (
       arith,
       between-more heard slot state le,
       sum-between heard slot states le,
@@ -232,12 +231,7 @@ fresh-halted number keep n (x ∷ held) all =
 
 fresh-more : (n m : ℕ) (held : List AdmittedPlay) → n ≤ m → All (λ (h : AdmittedPlay). h.number < n) held
     → All (λ (h : AdmittedPlay). h.number < m) held
-fresh-more n m held le all =
-    All-weaker (λ (h : AdmittedPlay). h.number < n) (λ (h : AdmittedPlay). h.number < m) (λ h less. omega (
-      arith,
-      less,
-      le,
-    )) held all
+fresh-more n m held le all = grind arith
 
 -- a client of a day whose bookings are balanced
 pub record BalancedClient (m : DayState) (state : ClientState) : Type 0 where

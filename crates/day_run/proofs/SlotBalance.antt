@@ -32,9 +32,7 @@ pause-share false t stop rest none = refl
 
 pub pausing-share : (t slot : ℕ) (stop : Booked) (rest : Rest) → slot < t
     → share_of t (pausing_state slot stop rest) ≡ share_at t stop
-pausing-share t slot stop rest later =
-    pause-share (sent_by stop slot == stop.keep) t stop rest
-    (λ all. share-done t slot stop later (eqb-true (sent_by stop slot) stop.keep all))
+pausing-share t slot stop rest later = grind (arith, pause-share, share-done, eqb-true)
 
 sending-share : (t slot : ℕ) (state : ClientState) → slot < t → share_of t (after_sending slot state) ≡ share_of t state
 sending-share t slot (Pausing stop rest) later = pausing-share t slot stop rest later

@@ -88,38 +88,22 @@ total-same T f g a (suc n) same =
     ∙ ap (T.op (T.over g a n)) (same (a + n) (omega arith)) ∙ sym (T.more g a n)
 
 total-join : (T : Total) (f : ℕ → ℕ) (a m n : ℕ) → T.over f a (m + n) ≡ T.op (T.over f a m) (T.over f (a + m) n)
-total-join T f a m zero =
-    let e : m + 0 ≡ m = omega arith in
-    ap (T.over f a) e ∙ sym (ap (T.op (T.over f a m)) (T.none f (a + m)) ∙ T.right (T.over f a m))
-total-join T f a m (suc n) =
-    let e : m + suc n ≡ suc (m + n) = omega arith in
-    let at : a + (m + n) ≡ a + m + n = omega arith in
-    ap (T.over f a) e ∙ T.more f a (m + n) ∙ ap (λ k. T.op k (f (a + (m + n)))) (total-join T f a m n)
-    ∙ T.assoc (T.over f a m) (T.over f (a + m) n) (f (a + (m + n)))
-    ∙ ap (λ k. T.op (T.over f a m) (T.op (T.over f (a + m) n) (f k))) at
-    ∙ ap (T.op (T.over f a m)) (sym (T.more f (a + m) n))
+total-join T f a m zero = grind arith
+total-join T f a m (suc n) = grind (arith, total-join T f a m n)
 
 -- slots in which nothing is booked add nothing
 total-none : (T : Total) (f : ℕ → ℕ) (a n : ℕ) → ((t : ℕ) → a ≤ t → f t ≡ 0) → T.over f a n ≡ 0
 total-none T f a zero none = T.none f a
-total-none T f a (suc n) none =
-    T.more f a n ∙ ap (T.op (T.over f a n)) (none (a + n) (omega arith)) ∙ T.right (T.over f a n)
-    ∙ total-none T f a n none
+total-none T f a (suc n) none = grind (arith, none (a + n) (omega arith), total-none T f a n none)
 
 pub total-past : (T : Total) (f : ℕ → ℕ) (a m n : ℕ) → ((t : ℕ) → a + m ≤ t → f t ≡ 0)
     → T.over f a m ≡ T.over f a (m + n)
-total-past T f a m n none =
-    sym (total-join T f a m n ∙ ap (T.op (T.over f a m)) (total-none T f (a + m) n none)
-    ∙ T.right (T.over f a m))
+total-past T f a m n none = grind (arith, total-join T f a m n, total-none T f (a + m) n none)
 
 -- the total through a slot
 pub total-next : (T : Total) (f : ℕ → ℕ) (from slot : ℕ) → from + 1 ≤ slot
     → T.op (T.over f (from + 1) (slot - (from + 1))) (f slot) ≡ T.over f (from + 1) (slot + 1 - (from + 1))
-total-next T f from slot begun =
-    let n = slot - (from + 1) in
-    let at : from + 1 + n ≡ slot = omega (arith, begun) in
-    let e : slot + 1 - (from + 1) ≡ suc n = omega (arith, begun) in
-    sym (ap (T.over f (from + 1)) e ∙ T.more f (from + 1) n ∙ ap (λ k. T.op (T.over f (from + 1) n) (f k)) at)
+total-next T f from slot begun = grind arith
 
 -- slots after one up to another, and one between these
 pub record SlotSpan : Type 0 where

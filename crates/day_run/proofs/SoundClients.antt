@@ -96,10 +96,7 @@ AreSoundPlays Plays = (rest : Rest) → Plays rest → IsSoundIfAny rest
 
 -- ---- a play that is halted
 none-sent : (play : ClientPlay) (heard : ℕ) → heard < play.start → sent_by (booking_of play) heard ≡ 0
-none-sent play heard early =
-    let none : heard + 1 - play.start ≡ 0 = omega (arith, early) in
-    let sent : sent_before play.plan play.start (heard + 1) ≡ 0 = ap (λ n. sum (take n (plan_slots play.plan))) none in
-    omega (arith, sent)
+none-sent play heard early = grind arith
 
 no-empty : (plan : List Segment) (sizes : List ℕ) (timing : Timing) → IsTautFor sizes timing plan
     → All (λ (s : Segment). 1 ≤ s.slots) plan
@@ -118,27 +115,19 @@ both-sides false b is left = cc is
 some-left : (play : ClientPlay) (heard : ℕ) → is_done heard play ≡ false → play.start ≤ heard
     → sum_through play.plan (heard - play.start) < total_bytes play.plan
 some-left play heard undone begun =
-    let e : heard + 1 - play.start ≡ heard - play.start + 1 = omega (arith, begun) in
-    let sent : sent_before play.plan play.start (heard + 1) ≡ sum_through play.plan (heard - play.start) =
-    ap (λ n. sum (take n (plan_slots play.plan))) e in
-    let other : (sent_by (booking_of play) heard == total_bytes play.plan) ≡ false =
-    both-sides (nat_le play.start heard) (sent_by (booking_of play) heard == total_bytes play.plan)
-    (le-leb play.start heard begun) undone in
-    let apart : sent_by (booking_of play) heard ≡ total_bytes play.plan → ⊥ =
-    eqb-false (sent_by (booking_of play) heard) (total_bytes play.plan) other in
-    elim (cases_lt (sum_through play.plan (heard - play.start)) (total_bytes play.plan)) [
-      | inl below ↦ below
-      | inr reached ↦ absurd (apart (omega (arith, reached, sent)))
-    ]
+    grind (
+      arith,
+      both-sides (nat_le play.start heard) (sent_by (booking_of play) heard == total_bytes play.plan)
+          (le-leb play.start heard begun) undone,
+      le-leb play.start heard begun,
+      eqb-false,
+      cases_lt (sum_through play.plan (heard - play.start)) (total_bytes play.plan),
+    )
 
 sent-through : (play : ClientPlay) (heard : ℕ) → play.start ≤ heard
     → sum_through play.plan (heard - play.start) < total_bytes play.plan
     → sent_by (booking_of play) heard ≡ sum_through play.plan (heard - play.start)
-sent-through play heard begun below =
-    let e : heard + 1 - play.start ≡ heard - play.start + 1 = omega (arith, begun) in
-    let sent : sent_before play.plan play.start (heard + 1) ≡ sum_through play.plan (heard - play.start) =
-    ap (λ n. sum (take n (plan_slots play.plan))) e in
-    omega (arith, below, sent)
+sent-through play heard begun below = grind arith
 
 -- a sound play that is paused
 record SoundHalt (heard : ℕ) (play : ClientPlay) : Type 0 where
@@ -157,30 +146,22 @@ halt-if {heard} {play} true halt early =
     (omega (arith, none-sent play heard before)) in
     omega (arith, le)
 halt-if {heard} {play} false halt late =
-    let begun : play.start ≤ heard = ltb-false heard play.start late in
-    let last = heard - play.start in
-    let below = halt.sound.left begun in
-    let sent : sent_by (booking_of play) heard ≡ sum_through play.plan last = sent-through play heard begun below in
-    let inside : last < total_slots play.plan = elim (cases_lt last (total_slots play.plan)) [
-      | inl within ↦ within
-      | inr past ↦
-          let short : length (plan_slots play.plan) ≤ last + 1 = omega (arith, length-plan_slots play.plan, past) in
-          let all : sum_through play.plan last ≡ total_bytes play.plan =
-          ap sum (take_all (last + 1) (plan_slots play.plan) short)
-          ∙ sum-plan_slots play.plan
-          (no-empty play.plan (rest_sizes play.rest.sizes play.rest.run)
-          (timing_of play.rest.playback play.rest.run) halt.sound.plan) in
-          absurd (omega (arith, all, below))
-    ] in
-    (inside, omega (arith, sent, halt.pause.boundary.after), halt.most)
+    let some = no-empty play.plan (rest_sizes play.rest.sizes play.rest.run)
+    (timing_of play.rest.playback play.rest.run) halt.sound.plan in
+    grind (
+      arith,
+      ltb-false heard play.start late,
+      sent-through,
+      cases_lt,
+      length-plan_slots play.plan,
+      take_all,
+      sum-plan_slots play.plan some,
+    )
 
 -- the bytes that are kept are those of the plan at most
 pub kept-most : (entries : List Entry) (its : HeldClient entries) (keep : ℕ)
     → CanHalt (state_after entries) its.play.number keep → keep ≤ total_bytes its.play.plan
-kept-most entries its keep can =
-    let P : Option AdmittedPlay → Type 0 =
-    λ o. IsSomeAnd o (λ (h : AdmittedPlay). IsTrue h.is_open × (keep ≤ total_bytes h.play.segments)) in
-    (subst P its.is.held can).1
+kept-most entries its keep can = grind arith
 
 left-sound : {heard : ℕ} {play : ClientPlay} (halt : SoundHalt heard play)
     → IsSoundRest (record play.rest { run = halt.pause.left })
@@ -227,8 +208,7 @@ state-slot : (heard slot : ℕ) (state : ClientState) → IsSoundClient heard st
     → IsSoundClient slot (after_play slot (after_sending slot state))
 state-slot heard slot Idle own = tt
 state-slot heard slot (Playing play) own = done-if slot play (is_done slot play) refl own.rest own.plan
-state-slot heard slot (Pausing stop rest) own =
-    pausing-cases (λ s. IsSoundClient slot (after_play slot s)) slot stop rest own own
+state-slot heard slot (Pausing stop rest) own = grind (arith, pausing-cases)
 state-slot heard slot (Paused rest) own = own
 
 slot-states : (old : DayState) (slot : ℕ) → IsSound old → AreStates slot (at_slot old slot).states
@@ -250,35 +230,7 @@ slot-sound old slot later sound = record {
 -- ---- all of a reel
 pub whole-sound : {link : SharedLink} {source buffer delay : ℕ} → IsLink link
     → IsWish (length link.media) source buffer delay → IsSoundIfAny (rest_at link source buffer delay)
-whole-sound {link} {source} {buffer} {delay} link-is wish some =
-    let rest = rest_at link source buffer delay in
-    let medium = link-is.media source no_medium wish.inside in
-    let count : 0 < length rest.sizes = omega (arith, some, length-take (length rest.sizes - 0) (drop 0 rest.sizes)) in
-    let none : bytes_between rest.sizes 0 0 ≡ 0 = bytes-none rest.sizes 0 in
-    record {
-      can = record {
-        sizes_are = medium.sizes;
-        playback_is = record {
-          some_picture_units = medium.some_picture_units;
-          picture_units_fit = medium.picture_units_fit;
-          some_slot_units = link-is.some_slot_units;
-          slot_units_fit = link-is.slot_units_fit;
-          some_buffer = wish.some_buffer;
-          buffer_fits = wish.buffer_fits;
-          delay_fits = wish.delay_fits;
-        };
-        run_is = record {
-          order = omega arith;
-          rest = count;
-          within = omega arith;
-          played_is = sym none;
-          ahead = omega arith;
-          whole = omega arith;
-        };
-        fits = omega arith;
-      };
-      boundary = record { number = 0; among = omega arith; place_is = refl };
-    }
+whole-sound {link} {source} {buffer} {delay} link-is wish some = grind (arith, length-take, bytes-none)
 
 -- ---- lines leave the clients sound
 -- what a line plays is sound
@@ -304,8 +256,7 @@ outcome-states step (Asked own at) order plays sound =
     }) sound own.made.answer own.made.noted.answered)
 outcome-states step (Stopped own at) order plays sound = halted-states step own order sound
 outcome-states step (Looks own at) order plays sound = subst HasSoundClients (sym own.made.noted.new_is) sound.each
-outcome-states {case} step (Reached own) order plays sound =
-    subst HasSoundClients (sym own.is) (slot-states step.old case.slot sound)
+outcome-states {case} step (Reached own) order plays sound = grind (arith, slot-states step.old case.slot sound)
 
 pub line-sound : (step : LineStep) (line : Line) → IsLink step.link
     → StandingLine step.old.heard (length step.link.media) line → IsSound step.old

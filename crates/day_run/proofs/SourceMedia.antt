@@ -1,3 +1,4 @@
+use Rattle.std.proofs.Common.{arith}
 -- Films and traces as they are played.
 use Rattle.std.proofs.Common.{◌≡◌, length, sum, subst, sym, ◌+◌, ℕ, List, [], ◌∷◌, ◌++◌, map, take, get_or, Result}
 use Rattle.std.proofs.Common.{Ok, Err, IfOk, ap, ◌∙◌}
@@ -27,9 +28,7 @@ use Rattle.day_run.specs.Sources.{IsSource}
 -- ---- a trace as it is played
 pub trace-length : (medium : Media) (trace : TraceMedia) → medium ≡ played.Trace trace
     → length (framed_bytes (media_pieces medium)) ≡ sum (media_sizes medium)
-trace-length medium trace e =
-    let P : Media → Type 0 = λ r. length (framed_bytes (media_pieces r)) ≡ sum (media_sizes r) in
-    subst P (sym e) (length-zeros trace.sizes)
+trace-length medium trace e = grind (arith, length-zeros trace.sizes)
 
 -- ---- films and traces as they are played
 pub trace-medium : {items : List ℕ} (source : Source) (r : Result Media NoMemory)
@@ -71,10 +70,7 @@ heard-next {next} lines place n h =
 
 -- ---- films and traces that can be played
 trace-fits : {source : Source} (sizes : Vec ℕ) → source ≡ Trace sizes → IsSource source → IsPlayable source
-trace-fits sizes is trace =
-    let kept : AreUnitSizes sizes.items = subst IsSource is trace in
-    subst IsPlayable (sym is)
-    (λ units some fit. record { sizes = kept; some_picture_units = some; picture_units_fit = fit })
+trace-fits sizes is trace = grind arith
 
 -- a trace whose reel was made
 pub trace-playable : {source : Source} {sizes : Vec ℕ} (r : Result Media NoMemory) → source ≡ Trace sizes
