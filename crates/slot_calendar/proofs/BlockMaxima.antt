@@ -73,10 +73,8 @@ module _ {places tops : List ℕ} {stale : Option ℕ} {p v : ℕ} (raise : Rais
       elim (cases_lt v (get_or tops block 0)) [
         | inl under ↦ (
             let same : get_or tops b 0 ≡ get_or tops block 0 = ap (λ k. get_or tops k 0) is in
-            let apart : old.place ≢ p = λ e. (
-            let at : get_or places old.place 0 ≡ get_or places p 0 = ap (λ k. get_or places k 0) e in
-            omega (arith, at, old.holds, same, under, raise.rises)
-            ) in
+            let apart : old.place ≢ p =
+            grind arith in
             record {
               place = old.place;
               inside = old.inside;
@@ -129,8 +127,7 @@ topped-lower {places} {tops} p v topped inside falls = record {
       elim (cases_eq i p) [
         | inl is ↦ (
             let value : get_or (set places p v) i 0 ≡ v =
-            ap (λ k. get_or (set places p v) k 0) is
-            ∙ get_or-set_same places p v 0 (omega (arith, topped.places_are)) in
+            rw (get_or, set places p v, is, get_or-set_same places p v 0 (omega (arith, topped.places_are))) in
             let same : get_or places i 0 ≡ get_or places p 0 = ap (λ k. get_or places k 0) is in
             omega (arith, value, same, before, falls)
             )
@@ -156,81 +153,74 @@ pub record Settle (places tops : List ℕ) (stale : Option ℕ) (b top : ℕ) : 
   pub is : stale ≡ Some b
   pub greatest : IsGreatest (take 1024 (drop (b * 1024) places)) top
 
-settle_length : {places tops : List ℕ} {stale : Option ℕ} {b top : ℕ} (settle : Settle places tops stale b top)
-    → length (take 1024 (drop (b * 1024) places)) ≡ 1024
-settle_length {places} {tops} {stale} {b} {top} settle = length-take-le 1024 (drop (b * 1024) places)
-    (omega (arith, length-drop (b * 1024) places, settle.maxima.places_are, settle.maxima.stale_in b settle.is))
+-- the numbers of the block as they were read again
+module _ {places tops : List ℕ} {stale : Option ℕ} {b top : ℕ} (settle : Settle places tops stale b top) where
+  open settle use {maxima, is, greatest}
 
-settle_here : {places tops : List ℕ} {stale : Option ℕ} {b top : ℕ} (settle : Settle places tops stale b top)
-    → get_or (set tops b top) b 0 ≡ top
-settle_here {places} {tops} {stale} {b} {top} settle = get_or-set_same tops b top 0
-    (omega (arith, settle.maxima.tops_are, settle.maxima.stale_in b settle.is))
+  abbrev pub settled_tops : List ℕ
+  settled_tops = set tops b top
 
-at_block : (places : List ℕ) (b r : ℕ) → r < 1024
-    → get_or (take 1024 (drop (b * 1024) places)) r 0 ≡ get_or places (b * 1024 + r) 0
-at_block places b r low = get_or-take 1024 (drop (b * 1024) places) r 0 low ∙ get_or-drop (b * 1024) places r 0
+  abbrev numbers : List ℕ
+  numbers = take 1024 (drop (b * 1024) places)
 
-settle_bounded : {places tops : List ℕ} {stale : Option ℕ} {b top : ℕ} (settle : Settle places tops stale b top) (i : ℕ)
-    → i < ring_slots → get_or places i 0 ≤ get_or (set tops b top) (i / 1024) 0
-settle_bounded {places} {tops} {stale} {b} {top} settle i less = elim (cases_eq (i / 1024) b) [
-  | inl same ↦ (
-      let r = i - b * 1024 in
-      let parts : i / 1024 * 1024 + i % 1024 ≡ i = div-add-mod' i 1024 in
-      let low : r < 1024 = omega (arith, same) in
-      let at : b * 1024 + r ≡ i = omega (arith, same) in
-      let value : get_or (take 1024 (drop (b * 1024) places)) r 0 ≡ get_or places i 0 =
-      at_block places b r low ∙ ap (λ k. get_or places k 0) at in
-      let bound : get_or (take 1024 (drop (b * 1024) places)) r 0 ≤ top =
-      settle.greatest.bounded r (omega (arith, settle_length settle, low)) in
-      let new : get_or (set tops b top) (i / 1024) 0 ≡ top =
-      ap (λ k. get_or (set tops b top) k 0) same ∙ settle_here settle in
-      omega (arith, value, bound, new)
-      )
-  | inr apart ↦ (
-      let old = settle.maxima.bounded i less in
-      let new = get_or-set_other tops b (i / 1024) top 0 apart in
-      omega (arith, old, new)
-      )
-]
+  length-numbers : length numbers ≡ 1024
+  length-numbers = length-take-le 1024 (drop (b * 1024) places)
+      (omega (arith, length-drop (b * 1024) places, maxima.places_are, maxima.stale_in b is))
 
-settle_reached : {places tops : List ℕ} {stale : Option ℕ} {b top : ℕ} (settle : Settle places tops stale b top) (k : ℕ)
-    → k < 1024 → IsReached places k (get_or (set tops b top) k 0)
-settle_reached {places} {tops} {stale} {b} {top} settle k less = elim (cases_eq k b) [
-  | inl same ↦ (
-      let low : greatest.index < 1024 = omega (arith, greatest.inside, settle_length settle) in
-      let new : get_or (set tops b top) k 0 ≡ top =
-      ap (λ x. get_or (set tops b top) x 0) same ∙ settle_here settle in
-      record {
-        place = b * 1024 + greatest.index;
-        inside = omega (arith, low, settle.maxima.stale_in b is);
-        of_block = div-mul-add b 1024 greatest.index low ∙ sym same;
-        holds = sym (at_block places b greatest.index low) ∙ greatest.holds ∙ sym new;
-      }
-      )
-  | inr apart ↦ (
-      let others : stale ≢ Some k =
-      λ e. (let both : Some b ≡ Some k = sym is ∙ e in apart (let same : k ≡ b = cc in same)) in
-      let old = settle.maxima.reached k less others in
-      record {
-        place = old.place;
-        inside = old.inside;
-        of_block = old.of_block;
-        holds = old.holds ∙ sym (get_or-set_other tops b k top 0 apart);
-      }
-      )
-]
-  where
-    open settle use {is, greatest}
+  settle_here : get_or settled_tops b 0 ≡ top
+  settle_here = get_or-set_same tops b top 0 (omega (arith, maxima.tops_are, maxima.stale_in b is))
 
--- the stale block is read again
-pub topped-settle : {places tops : List ℕ} {stale : Option ℕ} {b top : ℕ} (settle : Settle places tops stale b top) → AreBlockMaxima places (set tops b top) None
-topped-settle {places} {tops} {stale} {b} {top} settle = record {
-  places_are = settle.maxima.places_are;
-  tops_are = length-set tops b top ∙ settle.maxima.tops_are;
-  bounded = settle_bounded settle;
-  reached = λ k less exact. settle_reached settle k less;
-  stale_in = λ k e. absurd (none-some k e);
-}
+  at_block : (r : ℕ) → r < 1024 → get_or numbers r 0 ≡ get_or places (b * 1024 + r) 0
+  at_block r low = get_or-take 1024 (drop (b * 1024) places) r 0 low ∙ get_or-drop (b * 1024) places r 0
+
+  settle_bounded : (i : ℕ) → i < ring_slots → get_or places i 0 ≤ get_or settled_tops (i / 1024) 0
+  settle_bounded i less = elim (cases_eq (i / 1024) b) [
+    | inl same ↦ (
+        let r = i - b * 1024 in
+        let parts : i / 1024 * 1024 + i % 1024 ≡ i = div-add-mod' i 1024 in
+        let low : r < 1024 = omega (arith, same) in
+        let at : b * 1024 + r ≡ i = omega (arith, same) in
+        let value : get_or numbers r 0 ≡ get_or places i 0 = at_block r low ∙ ap (λ k. get_or places k 0) at in
+        let bound : get_or numbers r 0 ≤ top = greatest.bounded r (omega (arith, length-numbers, low)) in
+        let new : get_or settled_tops (i / 1024) 0 ≡ top = ap (λ k. get_or settled_tops k 0) same ∙ settle_here in
+        omega (arith, value, bound, new)
+        )
+    | inr apart ↦ omega (arith, maxima.bounded i less, get_or-set_other tops b (i / 1024) top 0 apart)
+  ]
+
+  settle_reached : (k : ℕ) → k < 1024 → IsReached places k (get_or settled_tops k 0)
+  settle_reached k less = elim (cases_eq k b) [
+    | inl same ↦ (
+        let low : greatest.index < 1024 = omega (arith, greatest.inside, length-numbers) in
+        let new : get_or settled_tops k 0 ≡ top = ap (λ x. get_or settled_tops x 0) same ∙ settle_here in
+        record {
+          place = b * 1024 + greatest.index;
+          inside = omega (arith, low, maxima.stale_in b is);
+          of_block = div-mul-add b 1024 greatest.index low ∙ sym same;
+          holds = sym (at_block greatest.index low) ∙ greatest.holds ∙ sym new;
+        }
+        )
+    | inr apart ↦ (
+        let others : stale ≢ Some k = grind (arith, is) in
+        let old = maxima.reached k less others in
+        record {
+          place = old.place;
+          inside = old.inside;
+          of_block = old.of_block;
+          holds = old.holds ∙ sym (get_or-set_other tops b k top 0 apart);
+        }
+        )
+  ]
+
+  -- the stale block is read again
+  pub topped-settle : AreBlockMaxima places settled_tops None
+  topped-settle = record {
+    places_are = maxima.places_are;
+    tops_are = length-set tops b top ∙ maxima.tops_are;
+    bounded = settle_bounded;
+    reached = λ k less exact. settle_reached k less;
+    stale_in = λ k e. absurd (none-some k e);
+  }
 
 -- all places and all blocks hold 0
 pub topped-zeros : (places tops : List ℕ) → AreZeros places ring_slots → AreZeros tops 1024 → AreBlockMaxima places tops

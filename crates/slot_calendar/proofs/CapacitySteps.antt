@@ -27,8 +27,7 @@ capacity-from : (steps : List CapStep) (index t bytes : ℕ) → IsLatest steps 
     → fold (capacity_after t) bytes steps ≡ (step_at steps index).bytes
 capacity-from [] index t bytes latest = absurd (omega (arith, latest.inside))
 capacity-from (s ∷ rest) zero t bytes latest =
-    let here : capacity_after t bytes s ≡ s.bytes =
-    cond-true (nat_le s.from t) s.bytes bytes (le-leb s.from t latest.begun) in
+    let here : capacity_after t bytes s ≡ s.bytes = search (cond-true, nat_le, le-leb) in
     ap (λ b. fold (capacity_after t) b rest) here
     ∙ capacity-rest rest t s.bytes (λ i less. latest.last (suc i) (omega arith) (omega (arith, less)))
 capacity-from (s ∷ rest) (suc k) t bytes latest = capacity-from rest k t (capacity_after t bytes s) (record {
@@ -44,16 +43,12 @@ capacity-is steps t bytes is =
 
 pub ascends : (steps : List CapStep) (i d : ℕ) → IsProfile steps → i + d < length steps
     → (step_at steps i).from ≤ (step_at steps (i + d)).from
-ascends steps i zero profile inside =
-    let at : i + 0 ≡ i = omega arith in
-    let same : (step_at steps (i + 0)).from ≡ (step_at steps i).from = ap (λ k. (step_at steps k).from) at in
-    omega (arith, same)
+ascends steps i zero profile inside = grind arith
 ascends steps i (suc d) profile inside =
     let before = ascends steps i d profile (omega (arith, inside)) in
     let step = profile.ascend (i + d) (omega (arith, inside)) in
     let at : i + d + 1 ≡ i + suc d = omega arith in
-    let same : (step_at steps (i + d + 1)).from ≡ (step_at steps (i + suc d)).from =
-    ap (λ k. (step_at steps k).from) at in
+    let same : (step_at steps (i + d + 1)).from ≡ (step_at steps (i + suc d)).from = cc in
     omega (arith, before, step, same)
 
 -- a step and a later one
@@ -69,36 +64,34 @@ pub record HaveBegun (steps : List CapStep) (i slot bytes : ℕ) : Type 0 where
   pub begun : (k : ℕ) → k < i → (step_at steps k).from ≤ slot
   pub bytes_are : (k : ℕ) → k + 1 ≡ i → bytes ≡ (step_at steps k).bytes
 
--- step i begins after it
-pub capacity-before : {steps : List CapStep} {i slot u bytes : ℕ} → IsProfile steps → i < length steps
-    → HaveBegun steps i slot bytes → slot < (step_at steps i).from → slot ≤ u → u < (step_at steps i).from
-    → IsCapacity steps u bytes
-capacity-before {steps} {i} profile inside first after from less =
-    elim (cases_lt 0 i) [
-      | inl some ↦ record {
-        index = i - 1;
-        inside = omega (arith, inside);
-        begun = omega (arith, first.begun (i - 1) (omega (arith, some)), from);
-        last = λ k more within. omega (arith, ascends-to steps i k profile (omega (arith, more)) within, less);
-        bytes_are = first.bytes_are (i - 1) (omega (arith, some));
-      }
-      | inr none ↦ (
-          let zero_is : i ≡ 0 = omega (arith, none) in
-          let same : (step_at steps i).from ≡ (step_at steps 0).from = ap (λ k. (step_at steps k).from) zero_is in
-          absurd (omega (arith, same, profile.first, after))
-          )
-    ]
+module _ {steps : List CapStep} {i slot u bytes : ℕ} (profile : IsProfile steps) where
+  -- step i begins after it
+  pub capacity-before : i < length steps → HaveBegun steps i slot bytes → slot < (step_at steps i).from → slot ≤ u
+      → u < (step_at steps i).from → IsCapacity steps u bytes
+  capacity-before inside first after from less =
+      elim (cases_lt 0 i) [
+        | inl some ↦ record {
+          index = i - 1;
+          inside = omega (arith, inside);
+          begun = omega (arith, first.begun (i - 1) (omega (arith, some)), from);
+          last = λ k more within. omega (arith, ascends-to steps i k profile (omega (arith, more)) within, less);
+          bytes_are = first.bytes_are (i - 1) (omega (arith, some));
+        }
+        | inr none ↦ (
+            let same : (step_at steps i).from ≡ (step_at steps 0).from = grind arith in
+            absurd (omega (arith, same, profile.first, after))
+            )
+      ]
 
--- all steps begin at or before the slot
-pub capacity-last : {steps : List CapStep} {i slot u bytes : ℕ} → IsProfile steps → length steps ≡ i
-    → HaveBegun steps i slot bytes → slot ≤ u → IsCapacity steps u bytes
-capacity-last {steps} {i} profile count all from = record {
-  index = i - 1;
-  inside = omega (arith, count, profile.some);
-  begun = omega (arith, all.begun (i - 1) (omega (arith, count, profile.some)), from);
-  last = λ k more within. absurd (omega (arith, more, within, count));
-  bytes_are = all.bytes_are (i - 1) (omega (arith, count, profile.some));
-}
+  -- all steps begin at or before the slot
+  pub capacity-last : length steps ≡ i → HaveBegun steps i slot bytes → slot ≤ u → IsCapacity steps u bytes
+  capacity-last count all from = record {
+    index = i - 1;
+    inside = omega (arith, count, profile.some);
+    begun = omega (arith, all.begun (i - 1) (omega (arith, count, profile.some)), from);
+    last = λ k more within. absurd (omega (arith, more, within, count));
+    bytes_are = all.bytes_are (i - 1) (omega (arith, count, profile.some));
+  }
 
 pub span-is : (steps : List CapStep) (t bytes until : ℕ) → t < until
     → ((u : ℕ) → t ≤ u → u < until → IsCapacity steps u bytes) → IsSpan steps t bytes until
@@ -118,10 +111,7 @@ fold-most [] t bytes most small rest = small
 fold-most (s ∷ steps) t bytes most small rest =
     let first : s.bytes ≤ most = rest 0 (omega arith) in
     let next : capacity_after t bytes s ≤ most =
-    elim (cases_cond (nat_le s.from t) s.bytes bytes (capacity_after t bytes s) refl) [
-      | inl e ↦ omega (arith, e, first)
-      | inr e ↦ omega (arith, e, small)
-    ] in
+    grind (arith, cases_cond (nat_le s.from t) s.bytes bytes (capacity_after t bytes s) refl) in
     fold-most steps t (capacity_after t bytes s) most next (λ i less. rest (suc i) (omega (arith, less)))
 
 -- no slot has more than the greatest capacity

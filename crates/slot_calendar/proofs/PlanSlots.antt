@@ -25,8 +25,7 @@ sum-take-append xs ys k =
       | inl past ↦ (
           let m = k - length xs in
           let at : length xs + m ≡ k = omega arith in
-          let whole : take k (xs ++ ys) ≡ xs ++ take m ys =
-          ap (λ n. take n (xs ++ ys)) (sym at) ∙ take-append-add xs ys m in
+          let whole : take k (xs ++ ys) ≡ xs ++ take m ys = grind (arith, take-append-add xs ys m) in
           let front : take k xs ≡ xs = take_all k xs (omega arith) in
           ap sum whole ∙ sum_by-append (λ x. x) xs (take m ys) ∙ ap (λ l. sum l + sum (take m ys)) (sym front)
           )
@@ -88,8 +87,7 @@ slots-most (s ∷ segments) =
     let parts : sum (plan_slots (s ∷ segments)) ≡ sum (plan_slots (s ∷ [])) + sum (plan_slots segments) =
     ap sum (flat_map-append slots_of (s ∷ []) segments)
     ∙ sum_by-append (λ x. x) (plan_slots (s ∷ [])) (plan_slots segments) in
-    let bytes : total_bytes (s ∷ segments) ≡ s.bytes + total_bytes segments =
-    sum_by-cons (λ x. x.bytes) s segments in
+    let bytes : total_bytes (s ∷ segments) ≡ s.bytes + total_bytes segments = search (sum_by-cons, s, segments) in
     omega (arith, parts, bytes, one-most s, slots-most segments)
 
 pub sent-most : (segments : List Segment) (start t : ℕ) → sent_before segments start t ≤ total_bytes segments
@@ -164,8 +162,7 @@ pub from-next : (at : SegmentFrom) → at.from + at.s.slots ≡ at.start + total
 from-next at =
     let front = take at.i at.segments in
     let slots : total_slots (take (at.i + 1) at.segments) ≡ total_slots front + at.s.slots =
-    ap total_slots (front-next at.segments at.i at.s at.inside at.segment_is)
-    ∙ sum_by-append (λ x. x.slots) front (at.s ∷ []) ∙ ap (λ n. total_slots front + n) (one-slots at.s) in
+    grind (arith, front-next at.segments at.i at.s at.inside at.segment_is, sum_by-append, one-slots at.s) in
     omega (arith, slots, at.from_is)
 
 pub bytes-next : (at : SegmentFrom)
@@ -361,8 +358,7 @@ pub asked-slot : (segments : List Segment) (start j : ℕ)
     → asked_at segments start (start + j) ≡ get_or (plan_slots segments) j 0
 asked-slot segments start j =
     let slots = plan_slots segments in
-    let here : sent_before segments start (start + j) ≡ sum (take j slots) =
-    ap (λ n. sum (take n slots)) (let e : start + j - start ≡ j = omega arith in e) in
+    let here : sent_before segments start (start + j) ≡ sum (take j slots) = grind arith in
     let next : sent_before segments start (start + j + 1) ≡ sum (take (j + 1) slots) =
     ap (λ n. sum (take n slots)) (let e : start + j + 1 - start ≡ j + 1 = omega arith in e) in
     elim (cases_lt j (length slots)) [

@@ -6,7 +6,6 @@ use Rattle.std.proofs.lemmas.List.{map-id}
 use Rattle.std.proofs.lemmas.List.FromFn.{sum_by-map-range_with_len_more}
 use Rattle.std.proofs.lemmas.List.Sums.{sum_by-append, sum_by-cons, sum_by_push}
 use Rattle.plan_cert.specs.declared.Segment.{Segment}
-use Rattle.plan_cert.specs.PlanSlots.{total_bytes}
 use Rattle.slot_calendar.specs.Plays.{Play, sent_before, asked_at, released_at, whole_play, truncated_play, share_at}
 use Rattle.slot_calendar.specs.Plays.{booked_by}
 use Rattle.slot_calendar.specs.Calendars.{CalendarState, booked_at, Represents}
@@ -20,9 +19,7 @@ share_whole a b k left right = omega arith
 
 pub share-whole : (segments : List Segment) (start t : ℕ)
     → share_at t (whole_play start segments) ≡ asked_at segments start t
-share-whole segments start t =
-    share_whole (sent_before segments start t) (sent_before segments start (t + 1)) (total_bytes segments)
-    (sent-most segments start t) (sent-most segments start (t + 1))
+share-whole segments start t = search (share_whole, sent-most)
 
 pub share-cut : (segments : List Segment) (start keep t : ℕ)
     → share_at t (truncated_play start segments keep) + released_at segments start keep t ≡ asked_at segments start t
@@ -58,9 +55,7 @@ shares-first segments start keep (suc t) =
 -- a play more
 pub booked-push : (plays : List Play) (segments : List Segment) (start t : ℕ)
     → booked_by (plays ++ whole_play start segments ∷ []) t ≡ booked_by plays t + asked_at segments start t
-booked-push plays segments start t =
-    sum_by_push (share_at t) plays (whole_play start segments)
-    ∙ ap (λ n. booked_by plays t + n) (share-whole segments start t)
+booked-push plays segments start t = search (sum_by_push, share-whole)
 
 -- the plays before one, that one, and the plays after it
 pub booked-around : (before after : List Play) (play : Play) (t : ℕ)
@@ -109,9 +104,4 @@ pub record HasCut : Type 0 where
 pub stands-cut : (cut : HasCut) (before after : List Play)
     → Represents cut.old (before ++ whole_play cut.play.start cut.play.segments ∷ after)
     → Represents cut.new (before ++ cut.play ∷ after)
-stands-cut cut before after stands = record {
-  each = λ t from. (
-      let since : cut.old.first ≤ t = omega (arith, cut.first_is, from) in
-      omega (arith, cut.totals t since, stands.each t since, booked-cut before after cut.play t)
-      );
-}
+stands-cut cut before after stands = grind (arith, booked-cut)

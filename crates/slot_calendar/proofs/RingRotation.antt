@@ -43,8 +43,7 @@ rotation-at {xs} first k places inside =
     elim (cases_lt k (ring_slots - h)) [
       | inl less ↦ (
           let here : (first + k) % ring_slots ≡ h + k =
-          mod-is (first + k) ring_slots (first / ring_slots) (h + k) (omega arith)
-          (omega arith) in
+          grind (arith, mod-is (first + k) ring_slots (first / ring_slots) (h + k) (omega arith) (omega arith)) in
           get_or_append_left (drop h xs) (take h xs) 0 k (omega (arith, front)) ∙ get_or-drop h xs k 0
           ∙ ap (λ i. get_or xs i 0) (sym here)
           )
@@ -76,10 +75,8 @@ pub places-apart : {first s t : ℕ} → IsInTurn first s → IsInTurn first t �
 places-apart {s} {t} s_in t_in same =
     let whole_s : s / ring_slots * ring_slots + s % ring_slots ≡ s = div-add-mod' s ring_slots in
     let whole_t : t / ring_slots * ring_slots + t % ring_slots ≡ t = div-add-mod' t ring_slots in
-    let less_s : s / ring_slots * ring_slots < (t / ring_slots + 1) * ring_slots =
-    omega (arith, whole_s, whole_t, same, s_in.inside, t_in.from) in
-    let less_t : t / ring_slots * ring_slots < (s / ring_slots + 1) * ring_slots =
-    omega (arith, whole_s, whole_t, same, s_in.from, t_in.inside) in
+    let less_s : s / ring_slots * ring_slots < (t / ring_slots + 1) * ring_slots = grind arith in
+    let less_t : t / ring_slots * ring_slots < (s / ring_slots + 1) * ring_slots = grind arith in
     let s_le : s / ring_slots < t / ring_slots + 1 = lt_of_mul-lt-mul_right ring_slots less_s in
     let t_le : t / ring_slots < s / ring_slots + 1 = lt_of_mul-lt-mul_right ring_slots less_t in
     let level : s / ring_slots ≡ t / ring_slots = omega (arith, s_le, t_le) in
@@ -98,27 +95,30 @@ same-block slot t from inside = omega (arith, from, inside)
 set-places : {xs : List ℕ} (k v : ℕ) → HasPlaces xs → HasPlaces (set xs k v)
 set-places {xs} k v places = record { length_is = length-set xs k v ∙ places.length_is }
 
-pub set-here : {xs : List ℕ} {first slot : ℕ} (v : ℕ) → HasPlaces xs → IsInTurn first slot →
-    total_at first (in_order first (set xs (slot % ring_slots) v)) slot ≡ v
-set-here {xs} {slot} v places turn =
-    let below : slot % ring_slots < ring_slots = mod_below slot ring_slots (omega arith) in
-    total-in (set-places (slot % ring_slots) v places) turn
-    ∙ get_or-set_same xs (slot % ring_slots) v 0 (omega (arith, below, places.length_is))
+module _ {xs : List ℕ} {first slot : ℕ} (v : ℕ) (places : HasPlaces xs) (turn : IsInTurn first slot) where
+  -- the places as the slot's own is written
+  abbrev written : List ℕ
+  written = set xs (slot % ring_slots) v
 
-pub set-there : {xs : List ℕ} {first slot t : ℕ} (v : ℕ) → HasPlaces xs → IsInTurn first slot → first ≤ t
-    → t ≢ slot →
-    total_at first (in_order first (set xs (slot % ring_slots) v)) t ≡ total_at first (in_order first xs) t
-set-there {xs} {first} {slot} {t} v places turn since other =
-    let after = set-places (slot % ring_slots) v places in
-    elim (cases_lt t (first + ring_slots)) [
-      | inl in_ring ↦ (
-          let its : IsInTurn first t = record { from = since; inside = in_ring } in
-          let apart : t % ring_slots ≢ slot % ring_slots = λ e. other (places-apart its turn e) in
-          total-in after its ∙ get_or-set_other xs (slot % ring_slots) (t % ring_slots) v 0 apart
-          ∙ sym (total-in places its)
-          )
-      | inr past ↦ total-past first t after past ∙ sym (total-past first t places past)
-    ]
+  pub set-here : total_at first (in_order first written) slot ≡ v
+  set-here =
+      let below : slot % ring_slots < ring_slots = mod_below slot ring_slots (omega arith) in
+      total-in (set-places (slot % ring_slots) v places) turn
+      ∙ get_or-set_same xs (slot % ring_slots) v 0 (omega (arith, below, places.length_is))
+
+  pub set-there : {t : ℕ} → first ≤ t → t ≢ slot
+      → total_at first (in_order first written) t ≡ total_at first (in_order first xs) t
+  set-there {t} since other =
+      let after = set-places (slot % ring_slots) v places in
+      elim (cases_lt t (first + ring_slots)) [
+        | inl in_ring ↦ (
+            let its : IsInTurn first t = record { from = since; inside = in_ring } in
+            let apart : t % ring_slots ≢ slot % ring_slots = λ e. other (places-apart its turn e) in
+            total-in after its ∙ get_or-set_other xs (slot % ring_slots) (t % ring_slots) v 0 apart
+            ∙ sym (total-in places its)
+            )
+        | inr past ↦ total-past first t after past ∙ sym (total-past first t places past)
+      ]
 
 -- the first slot is forgotten where it holds nothing
 pub total-next : {xs : List ℕ} (first t : ℕ) → HasPlaces xs
@@ -191,10 +191,8 @@ total-bounded {xs} {tops} {first} {slot} {t} topped from since same =
       | inl inside ↦ (
           let here = total-in {first = first} places (record { from = omega arith; inside = inside }) in
           let bound = topped.bounded (t % ring_slots) (mod_below t ring_slots (omega arith)) in
-          let block : t % ring_slots / 1024 ≡ slot % ring_slots / 1024 =
-          block-of t ∙ ap (λ b. b % 1024) same ∙ sym (block-of slot) in
-          let top : get_or tops (t % ring_slots / 1024) 0 ≡ get_or tops (slot % ring_slots / 1024) 0 =
-          ap (λ b. get_or tops b 0) block in
+          let block : t % ring_slots / 1024 ≡ slot % ring_slots / 1024 = cc (block-of t, block-of slot) in
+          let top : get_or tops (t % ring_slots / 1024) 0 ≡ get_or tops (slot % ring_slots / 1024) 0 = cc in
           omega (arith, here, bound, top)
           )
       | inr past ↦ (let none = total-past first t places past in omega (arith, none))

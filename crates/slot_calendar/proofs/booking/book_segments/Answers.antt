@@ -6,15 +6,23 @@ use Rattle.slot_calendar.proofs.booking.book_segments.Goals.{In-loop-segment}
 
 -- the segment in hand
 abbrev at : (c : In-loop-segment) → SegmentFrom
-at c =
-    segment-at c.args.start c.args.segments.now c.loop-segment.segment-index (omega arith) c.loop-segment.invariant.from_is
+at c = segment-at c.args.start c.args.segments.now c.loop-segment.segment-index (omega arith)
+    c.loop-segment.invariant.from_is
 
-pub book_segment-requires-clause-fits : goal.book_segment-requires-clause-fits
-book_segment-requires-clause-fits c = λ t from. (
+pub book_segment-requires : goal.book_segment-requires
+book_segment-requires c =
     let i = c.loop-segment.invariant in
-    let since : c.args.ring.now.first ≤ t = omega (arith, from, i.first_is) in
-    omega (arith, asked-through t (at (goal.at.book_segment-requires-clause-fits c).In-loop-segment), i.totals t since, c.requires.fits t since)
-    )
+    let here = at (goal.at.book_segment-requires c).In-loop-segment in
+    record {
+      plan = grind (arith, common_steps);
+      small = grind (arith, common_steps);
+      from_now = grind (arith, common_steps);
+      within = grind (arith, common_steps);
+      fits = λ t from. (
+          let since : c.args.ring.now.first ≤ t = omega (arith, from, i.first_is) in
+          omega (arith, asked-through t here, i.totals t since, c.requires.fits t since)
+          );
+    }
 
 pub loop-segment-preserved : goal.loop-segment-preserved
 loop-segment-preserved c =
@@ -31,15 +39,6 @@ loop-segment-preserved c =
 
 pub loop-segment-init : goal.loop-segment-init
 loop-segment-init c = grind (arith, common_steps)
-
-pub book_segment-requires-clause-plan : goal.book_segment-requires-clause-plan
-book_segment-requires-clause-plan c = grind (arith, common_steps)
-
-pub book_segment-requires-clause-small : goal.book_segment-requires-clause-small
-book_segment-requires-clause-small c = grind (arith, common_steps)
-
-pub book_segment-requires-clause-within : goal.book_segment-requires-clause-within
-book_segment-requires-clause-within c = grind (arith, common_steps)
 
 pub overflow_add-from : goal.overflow_add-from
 overflow_add-from c = grind (arith, common_steps)

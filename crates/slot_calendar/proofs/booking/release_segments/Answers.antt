@@ -5,8 +5,8 @@ use Rattle.slot_calendar.proofs.booking.release_segments.Goals.{In-loop-segment}
 
 -- the segment in hand
 abbrev at : (c : In-loop-segment) → SegmentFrom
-at c =
-    segment-at c.args.start c.args.segments.now c.loop-segment.segment-index (omega arith) c.loop-segment.invariant.from_is
+at c = segment-at c.args.start c.args.segments.now c.loop-segment.segment-index (omega arith)
+    c.loop-segment.invariant.from_is
 
 pub release_segment-requires-clause-booked : goal.release_segment-requires-clause-booked
 release_segment-requires-clause-booked c = λ t from. (
