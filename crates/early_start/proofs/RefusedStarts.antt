@@ -152,7 +152,8 @@ same_tried {from} {booked} {capacity} {segments} {first} {a} {b} wait x y =
 pub refusal-at : (r : Request) {found : Offers} (i : ℕ) (none : Tried) → IsOfferFor r found → i < length found.tried
     → IsFirstOverflow r.from r.booked r.capacity (r.first + i) r.segments (get_or found.tried i none).over
 refusal-at r {found} i none offer inside =
-    let P : ℕ → Type 0 = λ n. IsFirstOverflow r.from r.booked r.capacity n r.segments (get_or found.tried i none).over in
+    let P : ℕ → Type 0 =
+    λ n. IsFirstOverflow r.from r.booked r.capacity n r.segments (get_or found.tried i none).over in
     subst P (offer.refusals.starts i none inside) (offer.refusals.refused i none inside)
 
 -- the start that was found, by its value
