@@ -26,7 +26,8 @@ pub record BendsTo (at : Start) (s next : Segment) : Type 0 where
 -- where the first i + 1 segments lead to
 abbrev pub end_of : Start → List Segment → ℕ → Start
 end_of at segments i =
-    start_at at.lo at.hi (at.place + total_slots (take (i + 1) segments)) (at.height + total_bytes (take (i + 1) segments))
+    let done = take (i + 1) segments in
+    start_at at.lo at.hi (at.place + total_slots done) (at.height + total_bytes done)
 
 -- faultless, over curves that are functions of the place
 pub record Faultless (at : Start) (segments : List Segment) : Type 0 where
@@ -89,7 +90,8 @@ first_stays {at} {s} {rest} clean =
             (clean.between j later (omega (arith, slots, few))).above
         | inr start ↦ (
             let h = mul-le-mul_right s.slots clean.start_above in
-            let e : at.lo (at.place + j) * s.slots ≡ at.lo at.place * s.slots = ap (λ c. at.lo c * s.slots) (omega arith) in
+            let e : at.lo (at.place + j) * s.slots ≡ at.lo at.place * s.slots =
+            ap (λ c. at.lo c * s.slots) (omega arith) in
             omega (arith, h, e)
             )
       ];
@@ -99,7 +101,8 @@ first_stays {at} {s} {rest} clean =
             (clean.between j later (omega (arith, slots, few))).below
         | inr start ↦ (
             let h = mul-le-mul_right s.slots clean.start_below in
-            let e : at.hi (at.place + j) * s.slots ≡ at.hi at.place * s.slots = ap (λ c. at.hi c * s.slots) (omega arith) in
+            let e : at.hi (at.place + j) * s.slots ≡ at.hi at.place * s.slots =
+            ap (λ c. at.hi c * s.slots) (omega arith) in
             let none : j * s.bytes ≡ 0 * s.bytes = ap (λ c. c * s.bytes) (omega arith) in
             omega (arith, h, e, none)
             )

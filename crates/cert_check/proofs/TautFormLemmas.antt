@@ -129,7 +129,8 @@ taut_from_runs {from} {low} {up} {segments} closed whole =
           let h' = rw (bound_on from low t) at h in
           omega (arith, h', fault.1);
       below = λ t fault.
-          let h = (clean.between (t + 1) (omega arith) (omega (arith, whole.slots, fault.0, closed.same_length))).below in
+          let h =
+          (clean.between (t + 1) (omega arith) (omega (arith, whole.slots, fault.0, closed.same_length))).below in
           let h' = rw (bound_on from up t) at h in
           omega (arith, h', fault.1);
       no_equal = λ i fault. (clean.bends i fault.0).differs fault.1;

@@ -56,7 +56,7 @@ stop-ahead play (Some last) stops =
           (stops.keeps.above t (omega (arith, stops.keeps.slots))) in
           elim (cases_lt t is.0) [
             | inl before ↦ let less = is.1.0.not_before t before in omega arith
-            | inr from ↦ let rises = sum_through_rises plan t last (omega (arith, is.1.1)) in omega (arith, stops.halt.1)
+            | inr from ↦ omega (arith, sum_through_rises plan t last (omega (arith, is.1.1)), stops.halt.1)
           ]
       | inr none ↦
           let first : used_before sizes timing stop ≡ used_before sizes timing 0 =

@@ -66,7 +66,7 @@ left-one {sizes} {playback} {run} {plan} {last} {keep} is its =
     from-once {a} {b} is its =
         let stops = stop-one last is.stop_is its.stop_is in
         elim (cases_lt b.from_unit a.from_unit) [
-          | inl less ↦ let used = is.used b.from_unit its.not_back less in absurd (omega (arith, used, its.unused, stops))
+          | inl less ↦ absurd (omega (arith, is.used b.from_unit its.not_back less, its.unused, stops))
           | inr more ↦ more
         ]
 

@@ -63,7 +63,8 @@ agree code least most =
       past = λ k time h. le_of_mul-le-mul_left (omega (arith, h, pictures_scaled its k, time_scaled its time)) its.some;
       begun = λ k time h.
           omega (arith, mul-le-mul_left its.factor h, pictures_scaled its k, time_scaled its time);
-      lasts = λ k time h. le_of_mul-le-mul_left (omega (arith, h, pictures_scaled its k, time_scaled its time)) its.some;
+      lasts = λ k time h.
+          le_of_mul-le-mul_left (omega (arith, h, pictures_scaled its k, time_scaled its time)) its.some;
       ended = λ k time h.
           omega (arith, mul-le-mul_left its.factor h, pictures_scaled its k, time_scaled its time);
     }

@@ -14,12 +14,12 @@ use Rattle.plan_cert.specs.declared.Segment.{Segment}
 use Rattle.plan_cert.specs.PlanSlots.{total_bytes, total_slots}
 use Rattle.plan_cert.specs.Plan.{IsPlan}
 use Rattle.plan_cert.specs.CertFormat.{cert_head, cert_text, segment_line, segment_words}
-use Rattle.plan_cert.specs.CertGrammar.{AreSmall, BreaksAt, HasReadLines, HasWrongSum, IsAfterEnd, IsBadLine}
+use Rattle.plan_cert.specs.CertGrammar.{BreaksAt, HasReadLines, HasWrongSum, IsAfterEnd, IsBadLine}
 use Rattle.plan_cert.specs.CertGrammar.{IsCertificate, IsOneLine, Lines, MayEnd}
 use Rattle.plan_cert.specs.CertGrammar.{MayStand, begun_text, line_at, lines_of}
 use Rattle.plan_cert.specs.CertGrammar.MayStand.{Bytes, SegmentLine, Slots, Title}
 use Rattle.plan_cert.proofs.CertUniqueness.{Contents, IsSame, end_is_no_segment, lines_are, lines-certificate, no_break}
-use Rattle.plan_cert.proofs.CertUniqueness.{nothing_after, number_clean, one_text, begun_of, contents, words_clean}
+use Rattle.plan_cert.proofs.CertUniqueness.{nothing_after, number_clean, one_text, contents, words_clean}
 use Rattle.plan_cert.proofs.GrammarLemmas.{breaks_here, breaks_missing, goes_after_end, head_joined, next_is, not_bytes}
 use Rattle.plan_cert.proofs.GrammarLemmas.{not_one_more, not_segment, not_slots, not_title, read_more, read_none}
 
@@ -195,7 +195,8 @@ behind-end begun rest some =
     let count = length begun.segments in (
       3 + count + 1,
       omega arith,
-      inr (inl (goes_after_end (next_is (begun-lines begun (codes "end" ++ 10 ∷ rest)) (cut-off (codes "end") rest refl))
+      inr (inl (goes_after_end
+          (next_is (begun-lines begun (codes "end" ++ 10 ∷ rest)) (cut-off (codes "end") rest refl))
           (record { after_head = omega arith; words = refl }, some))),
     )
 
@@ -212,7 +213,8 @@ wrong-sum begun i wrong = record {
   small_slots = begun.few_slots;
   small_bytes = begun.few_bytes;
   small = begun.small;
-  text_is = sym (append_assoc (cert_head begun.slots begun.bytes) (flat_map segment_line begun.segments) (codes "end\n"));
+  text_is =
+      sym (append_assoc (cert_head begun.slots begun.bytes) (flat_map segment_line begun.segments) (codes "end\n"));
   wrong = wrong;
 }
 

@@ -67,7 +67,8 @@ first_uses_more {sizes} {timing} {slots} {n} {uses} so_far in' = record {
       let before = so_far.each t lt in
       elim (cases_eq s t) [
         | inl same ↦
-            let here = get_or-set_same uses s (get_or uses s 0 + get_or sizes n 0) 0 (omega (arith, so_far.slots_are)) in
+            let here =
+            get_or-set_same uses s (get_or uses s 0 + get_or sizes n 0) 0 (omega (arith, so_far.slots_are)) in
             let there = ap (λ u. get_or (set uses s (get_or uses s 0 + get_or sizes n 0)) u 0) same in
             let yes = cond_same s t (get_or sizes n 0) same in
             omega (arith, here, there, ap (λ u. get_or uses u 0) same, more, before, yes)

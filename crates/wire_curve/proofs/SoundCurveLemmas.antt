@@ -31,7 +31,8 @@ AreFilmCurves-of_uses {sizes} {timing} {uses} are of = record {
   low_is = λ t lt. of.low_is t (omega (arith, are.slots))
       ∙ ap (max timing.sent) (used_by-is sizes timing uses are (t + 1) (omega arith));
   up_is = λ t lt. of.up_is t (omega (arith, are.slots))
-      ∙ ap (λ used. min (total_of sizes timing) (used + timing.buffer)) (used_by-is sizes timing uses are t (omega arith));
+      ∙ ap (λ used. min (total_of sizes timing) (used + timing.buffer))
+      (used_by-is sizes timing uses are t (omega arith));
 }
 
 -- the lower curve of accepted pictures stays below the upper one; at the last slot they meet, at all bytes of the film

@@ -11,7 +11,7 @@ use Rattle.cert_check.proofs.walk.first_outside.Goals.{else-is_none-via-else-is_
 -- the slot is one of the curves
 few-in : (c : After-next_walk-walk) → c.loop-t.t < length c.args.curves.now.low.items
 few-in c =
-    rw c.as_slice-low.ensures.value at (let short : c.loop-t.t < length c.as_slice-low.result.now = omega arith in short)
+    let short : c.loop-t.t < length c.as_slice-low.result.now = omega arith in rw c.as_slice-low.ensures.value at short
 
 -- the walk goes on over it
 goes-in : (c : After-next_walk-walk)
@@ -43,7 +43,8 @@ loop-t-preserved c =
     record {
       stands = goes.stands;
       not_below = below_more _ _ c.loop-t.invariant.not_below (λ fault.
-          let over = rw (c.from.ensures, c.from-in-loop-t.ensures, c.as_slice-low.ensures.value) at c.if-height-from.false in
+          let over =
+          rw (c.from.ensures, c.from-in-loop-t.ensures, c.as_slice-low.ensures.value) at c.if-height-from.false in
           let h = rw (at.top, at.under) at fault.1 in
           omega (arith, scaled, over, h));
       above_is = elim c.if-is_none.branch [
@@ -63,7 +64,8 @@ loop-t-preserved c =
             (λ none. elim w.else-is_none.branch [
               | else-is_none-via-then-is_none+else-height-from-2 w' ↦ (λ fault.
                   let under =
-                  rw (w'.from-then-is_none.ensures, w'.from-then-is_none-2.ensures, up_is) at w'.if-height-from-2.false in
+                  rw (w'.from-then-is_none.ensures, w'.from-then-is_none-2.ensures, up_is)
+                  at w'.if-height-from-2.false in
                   let h = rw (at.top, at.under) at fault.1 in
                   omega (arith, scaled, under, h))
               | else-is_none-via-else-is_none w' ↦

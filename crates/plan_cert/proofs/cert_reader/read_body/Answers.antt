@@ -62,8 +62,8 @@ loop-line-preserved c =
     record {
       few = omega arith;
       counted = ap length items ∙ length_push c.loop-line.segments.items s ∙ ap (λ n. n + 1) inv.counted;
-      small = rw items (All-push (λ x. (x.slots ≤ MAX_NUMBER) × (x.bytes ≤ MAX_NUMBER)) c.loop-line.segments.items s inv.small
-          (c.in-Some-segment_in.ensures.few_slots, c.in-Some-segment_in.ensures.few_bytes));
+      small = rw items (All-push (λ x. (x.slots ≤ MAX_NUMBER) × (x.bytes ≤ MAX_NUMBER)) c.loop-line.segments.items s
+          inv.small (c.in-Some-segment_in.ensures.few_slots, c.in-Some-segment_in.ensures.few_bytes));
       text_is = rw items (inv.text_is ∙ ap (λ r. flat_map segment_line c.loop-line.segments.items ++ r)
           (c.in-Some.ensures.parts ∙ ap (λ l. l ++ 10 ∷ c.in-Some.after.now) c.in-Some-segment_in.ensures.words)
           ∙ segment_text c.in-Some.after.now c.loop-line.segments.items s);

@@ -17,7 +17,8 @@ loop-preserved c =
     let before = used_before-delay sizes own t (omega (arith, c.loop-test.true)) in
     let after = used_before-delay sizes own (t + 1) (omega (arith, c.loop-test.true)) in
     let low_here : timing.sent ≡ low_at sizes timing t = omega (arith, after, c.requires.limits.played_was_sent) in
-    let up_here : c.min.result ≡ up_at sizes timing t = omega (arith, before, c.min.ensures, c.sum_sizes-total.ensures) in
+    let up_here : c.min.result ≡ up_at sizes timing t =
+    omega (arith, before, c.min.ensures, c.sum_sizes-total.ensures) in
     record {
       low_room = omega (arith, so_far.low_room);
       up_room = omega (arith, so_far.up_room);
@@ -51,8 +52,10 @@ loop-size-preserved c =
     let own : HasOwnSlots timing = record { some = c.requires.limits.some_slot_units; same = c.requires.own_slots } in
     let so_far = c.loop-size.invariant in
     let inside = c.loop-size-test.true in
-    let low : c.push_reserved-in-loop-size-2.new.self.items ≡ c.loop-size.low.items ++ c.max.result ∷ [] = search rules in
-    let up : c.push_reserved-in-loop-size.new.self.items ≡ c.loop-size.up.items ++ c.min-in-loop-size.result ∷ [] = search rules in
+    let low : c.push_reserved-in-loop-size-2.new.self.items ≡ c.loop-size.low.items ++ c.max.result ∷ [] =
+    search rules in
+    let up : c.push_reserved-in-loop-size.new.self.items ≡ c.loop-size.up.items ++ c.min-in-loop-size.result ∷ [] =
+    search rules in
     let grown = used_before-own sizes own k inside in
     let place : timing.delay + k + 1 ≡ timing.delay + (k + 1) = omega arith in
     let next : used_before sizes timing (timing.delay + (k + 1))
@@ -76,24 +79,26 @@ loop-size-preserved c =
           place (values_pushed _ so_far.up up_here));
     }
 
-pub returns-clause-curves : goal.returns-clause-curves
-returns-clause-curves c =
-    let sizes = c.args.sizes.now in
-    let timing = c.args.timing.now in
-    let own : HasOwnSlots timing = record { some = c.requires.limits.some_slot_units; same = c.requires.own_slots } in
-    let so_far = c.loop-size.invariant in
-    let at_end : c.loop-size.size-index ≡ length sizes = omega (arith, c.loop-size-test.false, c.loop-size.auto.size-index-end) in
-    let slots = slots_own sizes own c.requires.some_picture in
-    record {
-      from_is = refl;
-      low_slots = omega (arith, so_far.low.len, at_end, slots);
-      up_slots = omega (arith, so_far.up.len, at_end, slots);
-      low_is = λ t lt. so_far.low.each t (omega (arith, lt, at_end, slots));
-      up_is = λ t lt. so_far.up.each t (omega (arith, lt, at_end, slots));
-    }
-
-pub returns-clause-fits : goal.returns-clause-fits
-returns-clause-fits c =
-    let sizes = c.args.sizes.now in
-    let at_end : length sizes ≡ c.loop-size.size-index = omega (arith, c.loop-size-test.false, c.loop-size.auto.size-index-end) in
-    all_fit sizes c.args.timing.now.buffer c.loop-size.size-index at_end c.loop-size.invariant.fit
+pub returns : goal.returns
+returns c = record {
+  curves =
+      let sizes = c.args.sizes.now in
+      let timing = c.args.timing.now in
+      let own : HasOwnSlots timing = record { some = c.requires.limits.some_slot_units; same = c.requires.own_slots } in
+      let so_far = c.loop-size.invariant in
+      let at_end : c.loop-size.size-index ≡ length sizes =
+      omega (arith, c.loop-size-test.false, c.loop-size.auto.size-index-end) in
+      let slots = slots_own sizes own c.requires.some_picture in
+      record {
+        from_is = refl;
+        low_slots = omega (arith, so_far.low.len, at_end, slots);
+        up_slots = omega (arith, so_far.up.len, at_end, slots);
+        low_is = λ t lt. so_far.low.each t (omega (arith, lt, at_end, slots));
+        up_is = λ t lt. so_far.up.each t (omega (arith, lt, at_end, slots));
+      };
+  fits =
+      let sizes = c.args.sizes.now in
+      let at_end : length sizes ≡ c.loop-size.size-index =
+      omega (arith, c.loop-size-test.false, c.loop-size.auto.size-index-end) in
+      all_fit sizes c.args.timing.now.buffer c.loop-size.size-index at_end c.loop-size.invariant.fit;
+}
