@@ -1,3 +1,4 @@
+use Rattle.std.proofs.lemmas.Grind.{common_steps}
 -- A client that receives a server's stream goes on at each reply, frame and report of it, up to the
 -- reply to TEARDOWN, which ends the watching.
 use Rattle.std.proofs.Common.{◌≡◌, ℕ, ◌+◌, ◌<◌, ◌≤◌, ◌==◌, ◌&&◌, ◌⊎◌, ◌^◌, true, nat_lt, List, [], ◌∷◌, ◌++◌, length}
@@ -62,8 +63,7 @@ place_in {bytes} {rest} {elements} {all} front cut =
     let whole : bytes ++ tail ≡ framed_bytes all = rw (front_is, take-append-drop count (framed_bytes all)) in
     let grown : AreInputElements (framed_bytes all) elements (rest ++ tail) =
     rw whole at (cut_grows bytes tail elements rest cut) in
-    let cuts : TwoCuts (framed_bytes all) elements all (rest ++ tail) [] =
-    record { one = grown; other = all_cut all alone } in
+    let cuts : TwoCuts (framed_bytes all) elements all (rest ++ tail) [] = search all_cut in
     elim (cuts_agree cuts) [
       | inl (more, (all_is, after)) ↦ record { more = more; tail = tail; all_is = all_is; cut = after }
       | inr (more, (is_all, after)) ↦
@@ -80,8 +80,7 @@ place_in {bytes} {rest} {elements} {all} front cut =
 
 -- what waits begins an element, or more comes
 starts_some : (w : List ℕ) (fault : DemuxFault) → IsFirst w (Err fault) → 0 < length w
-starts_some w HeadTooLong first = first.0.0
-starts_some w BodyTooLong first = first.0.0
+starts_some w fault given = grind arith
 
 pub no_fault : {all elements : List (List ℕ)} {rest : List ℕ} (fault : DemuxFault) → IsPlaceIn all elements rest
     → IsFirst rest (Err fault) → ⊥
@@ -130,26 +129,15 @@ IsAccepted wish h moment = GoesOn h moment ⊎ Gives wish h moment (Done (watche
 
 good_reply : {h : History} {message : List ℕ} → replies h < 2 → IsAnswer message (replies h + 1) 200
     → has_fields h message ≡ true → GoesOn h (Reply message)
-good_reply {h} few answer fields = (
-  (
-    record { awaited = or_left (nat_lt (replies h) 2) (is_complete h) (lt-ltb (replies h) 2 few); answer = answer },
-    fields,
-  ),
-  few,
-)
+good_reply {h} few answer fields = grind (arith, common_steps)
 
 setup_fields : (h : History) (message : List ℕ) → replies h ≡ 0 → is_some (setup_session message) ≡ true
     → has_fields h message ≡ true
-setup_fields h message none named =
-    cond-true (replies h == 0) (is_some (setup_session message)) _ (eq-eqb (replies h) 0 none) ∙ named
+setup_fields h message none named = grind arith
 
 play_fields : {ms : ℕ} (h : History) (message : List ℕ) → replies h ≡ 1 → play_range message ≡ Some ms
     → is_some (play_start message) ≡ true → has_fields h message ≡ true
-play_fields h message one range start =
-    cond-false (replies h == 0) (is_some (setup_session message)) _
-    (ne_eqb (replies h) 0 (λ none. omega (arith, none, one)))
-    ∙ cond-true (replies h == 1) (is_some (play_range message) && is_some (play_start message)) true
-    (eq-eqb (replies h) 1 one) ∙ ap (λ r. is_some r && is_some (play_start message)) range ∙ start
+play_fields h message one range start = grind arith
 
 -- the moment of an element, by what the element is
 same_moment : {moment other : ClientEvent} (element : List ℕ) → element_events element ≡ moment ∷ []
@@ -228,8 +216,7 @@ in_film {h} s qs are sum =
 frames_front : (qs : List (List ℕ)) (b : List ℕ) (rest : List (List ℕ)) → element_events b ≡ Frame b ∷ []
     → frames_of (events_of_elements (qs ++ b ∷ rest))
     ≡ frames_of (events_of_elements qs) ++ b ∷ frames_of (events_of_elements rest)
-frames_front qs b rest frame =
-    rw (moments_parts qs (b ∷ rest), frames_parts (events_of_elements qs) (events_of_elements (b ∷ rest)), frame)
+frames_front qs b rest frame = grind (arith, moments_parts, frames_parts)
 
 -- no third reply was accepted
 pub no_third : {h : History} (x : Stream) (y : List ℕ) (ys : List (List ℕ))
@@ -321,8 +308,7 @@ module _ (w : FilmWatch) where
       → IsNextIn (s.stream.x.blocks ++ s.stream.x.later) qs moment → IsAccepted wish h moment
   later_moment qs accepted next =
       elim (stands_in s.stream.x.blocks s.stream.x.later qs e es next.all_is) [
-        | Within rest inside ↦
-            film_moment qs accepted (record { element = e; more = rest; all_is = inside; moment_is = next.moment_is })
+        | Within rest inside ↦ search film_moment
         | Past more past after ↦ by_more more past after
       ]
     where

@@ -1,3 +1,4 @@
+use Rattle.std.proofs.lemmas.Grind.{common_steps}
 -- In which slots a connection asks for plays, and in which slots its plays begin.
 use Rattle.std.specs.Prelude.{⊤, All}
 use Rattle.std.specs.List.{fold}
@@ -41,38 +42,24 @@ InEntries P = Each (InEntry P)
 
 all_entries : (P : PlacedEntry → Type 0) (outcomes : List Outcome) → InEntries P outcomes → All P (entries_in outcomes)
 all_entries P [] are = All-nil P
-all_entries P (Entered placed ∷ outcomes) are =
-    All-cons P placed (entries_in outcomes) are.0 (all_entries P outcomes are.1)
+all_entries P (Entered placed ∷ outcomes) are = grind (arith, all_entries P outcomes are.1)
 all_entries P (_ ∷ outcomes) are = all_entries P outcomes are.1
 
 -- ---- in which slots a connection asks
 abbrev AsksInRange : PlacedEntry → Type 0
 AsksInRange placed = asked_in placed.entry.command ≤ 2 ^ 62
 
-halt_range : {keep : ℕ} {placed : PlacedEntry} → IsHaltEntry keep placed → AsksInRange placed
-halt_range {placed = placed} entry =
-    let none : asked_in placed.entry.command ≡ 0 = ap asked_in entry.command in omega (arith, none)
-
 play_range : (placed : PlacedEntry) (heard : ℕ) (plan : List Segment) → placed.entry.command ≡ play_of heard plan
     → AsksInRange placed
-play_range placed heard plan command =
-    let slot : asked_in placed.entry.command ≡ min heard (2 ^ 62) = ap asked_in command in omega (arith, slot)
+play_range placed heard plan command = grind arith
 
 ask_range : {old asking new : SessionState} {outcome : Outcome} → RequestAnswer old asking outcome new
     → InEntry AsksInRange outcome
-ask_range (Admission {base = base} {placed = placed} play entry answered) =
-    play_range placed base.heard play.prepared.plan entry.command
-ask_range (Refusal {base = base} {placed = placed} play entry) =
-    play_range placed base.heard play.prepared.plan entry.command
-ask_range (HaltMade halt entry) = halt_range entry
-ask_range (LookAnswer {placed = placed} command looked) =
-    let none : asked_in placed.entry.command ≡ 0 = ap asked_in command in omega (arith, none)
-ask_range _ = tt
+ask_range given = grind arith
 
 finish_range : {s new : SessionState} {asks : AwaitedAnswer} {halt : Outcome} → FinishesAs s asks halt new
     → InEntry AsksInRange halt
-finish_range NothingLeft = tt
-finish_range (DoneHalted entry) = halt_range entry
+finish_range given = grind arith
 
 abbrev RangeOfCalls : SessionState → List StationCall → SessionState → Type 0
 RangeOfCalls old turns new = InEntries AsksInRange (map outcome_of turns)
@@ -80,8 +67,7 @@ RangeOfCalls old turns new = InEntries AsksInRange (map outcome_of turns)
 range_kept : IsKeptByDoings RangeOfCalls
 range_kept = record {
   none = λ s. tt;
-  joins = λ a b c xs ys one two. rw (map-append outcome_of xs ys)
-      (each_append (InEntry AsksInRange) (map outcome_of xs) (map outcome_of ys) one two);
+  joins = grind (arith, common_steps);
   request = λ old new message outcome heard. (ask_range (request_answer heard), tt);
   reply = λ s. tt;
   slot = λ s n. tt;
@@ -114,9 +100,7 @@ later_take base (suc n) (x ∷ xs) = later_take (later base x) n xs
 
 later_each : (base : ℕ) (xs : List Entry) → All (λ (e : Entry). asked_in e.command ≤ fold later base xs) xs
 later_each base [] = All-nil (λ (e : Entry). asked_in e.command ≤ base)
-later_each base (x ∷ xs) =
-    All-cons (λ (e : Entry). asked_in e.command ≤ (fold later (later base x) xs)) x xs
-    (omega (arith, later_from (later base x) xs)) (later_each (later base x) xs)
+later_each base (x ∷ xs) = grind (arith, later_from (later base x) xs, later_each (later base x) xs)
 
 later_most : (most base : ℕ) (xs : List Entry) → base ≤ most → All (λ (e : Entry). asked_in e.command ≤ most) xs
     → fold later base xs ≤ most
@@ -127,8 +111,7 @@ later_most most base (x ∷ xs) few all =
 
 made_range : (e : Entry) → IsMadeByConnection e → asked_in e.command ≤ 2 ^ 62
 made_range e made =
-    rw (← made.entry_is) (All-contains AsksInRange
-    (entries_in (doings_outcomes made.doings)) made.placed (asked_range made.done) made.among)
+    grind (arith, entries_in (doings_outcomes made.doings), doings_outcomes made.doings, asked_range made.done)
 
 -- in a journal that connections made, no play was asked for in a slot after 2^62
 pub latest_range : (journal : List Entry) → AreMadeByConnections journal → latest_asked journal ≤ 2 ^ 62
@@ -146,8 +129,7 @@ StartsNext journal placed = (start : ℕ) → placed.entry.answer ≡ Admitted s
 
 answer_start : (steps : List CapStep) (state : State) (command : Command) (start : ℕ)
     → IsAnswer steps state command (Admitted start) → start ≡ max state.now (asked_in command) + 1
-answer_start steps state (PlayCommand slot segments) start is = is.0
-answer_start steps state _ start is = absurd is
+answer_start steps state command start given = grind arith
 
 stands_next : {terms : Terms} {journal : List Entry} (from : ℕ) (placed : PlacedEntry) → IsLegal terms.steps journal
     → StandsIn terms journal from placed → StartsNext journal placed
@@ -200,24 +182,10 @@ course_entries P (round ∷ rounds) ending are last =
 abbrev Begins : (ℕ → Type 0) → FilmPlay → Type 0
 Begins S play = S play.start
 
-admitted_starts : (S : ℕ → Type 0) (asked : Awaited) (answer : Answer) (askings : List StationRequest)
-    → ((start : ℕ) → answer ≡ Admitted start → S start) → All (Begins S) (plays_admitted asked answer askings)
-admitted_starts S (Play prepared) (Admitted start) askings starts =
-    All-cons (Begins S) (play_by prepared start askings) [] (starts start refl) (All-nil (Begins S))
-admitted_starts S _ _ askings starts = All-nil (Begins S)
-
-begun_starts : (journal : List Entry) (asked : Awaited) (outcome : Outcome) (askings : List StationRequest)
-    → InEntry (StartsNext journal) outcome → All (Begins (IsNext journal)) (plays_begun asked outcome askings)
-begun_starts journal asked (Entered placed) askings next =
-    admitted_starts (IsNext journal) asked placed.entry.answer askings next
-begun_starts journal asked _ askings next = All-nil (Begins (IsNext journal))
-
 plays_start : (journal : List Entry) (askings : List StationRequest)
     → InEntries (StartsNext journal) (outcomes_in askings) → All (Begins (IsNext journal)) (plays_of askings)
 plays_start journal [] next = All-nil (Begins (IsNext journal))
-plays_start journal (Asks asked outcome ∷ askings) next =
-    All-append (Begins (IsNext journal)) (plays_begun asked outcome askings) (plays_of askings)
-    (begun_starts journal asked outcome askings next.0) (plays_start journal askings next.1)
+plays_start journal (Asks asked outcome ∷ askings) next = grind (arith, plays_start journal askings next.1)
 
 -- each play of a connection begins in a slot after 0, and in the slot after the latest one in which a play was asked
 -- for at the latest
@@ -241,10 +209,7 @@ course_starts visit terms journal course is =
 
 pub course_range : (visit : Visit) (terms : Terms) (journal : List Entry) (course : Course)
     → IsCourseIn visit terms journal course → latest_asked journal ≤ 2 ^ 62 → All StartsInRange (course_plays course)
-course_range visit terms journal course is few =
-    let next : FilmPlay → Type 0 = λ play. (1 ≤ play.start) × (play.start ≤ latest_asked journal + 1) in
-    All-weaker next StartsInRange (λ play its. (its.0, omega (arith, its.1, few))) (course_plays course)
-    (course_starts visit terms journal course is)
+course_range visit terms journal course is few = grind (arith, course_starts visit terms journal course is)
 
 -- so does the play of a film that was asked for, where connections made the journal
 pub asked_start : {wish : Wish} {stored : Stored} {course : Course} (asked : IsAskedFor wish stored course)

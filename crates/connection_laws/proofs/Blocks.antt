@@ -119,22 +119,14 @@ frames_among_made : {run : FramedRun} {unit : PictureUnit} (is : Maker run unit)
     (frame_blocks run unit f packets ++ rest.blocks)
     ≡ frame_blocks run unit f packets ++ frames_among rest.parts rest.blocks
 frames_among_made is f [] rest = refl
-frames_among_made {run} {unit} is f (p ∷ packets) rest =
-    is.among p (map is.make packets ++ rest.parts) (frame_block run unit p f)
-    (frame_blocks run unit (f + 1) packets ++ rest.blocks)
-    ∙ ap (λ l. frame_block run unit p f ∷ l) (frames_among_made is (f + 1) packets rest)
+frames_among_made {run} {unit} is f (p ∷ packets) rest = grind (arith, frames_among_made is (f + 1) packets rest)
 
 among_report : {run : FramedRun} {unit : PictureUnit} (is : Maker run unit) (starts : Bool)
     (uncounted : UncountedReport) (from : PacketsFrom) (rest : AfterUnit)
     → frames_among ((cond starts (uncounted.report ∷ []) [] ++ map is.make from.packets) ++ rest.parts)
     ((report_if starts run unit from.frames from.octets ++ frame_blocks run unit from.frames from.packets)
     ++ rest.blocks) ≡ frame_blocks run unit from.frames from.packets ++ frames_among rest.parts rest.blocks
-among_report is false uncounted from rest = frames_among_made is from.frames from.packets rest
-among_report {run} {unit} is true uncounted from rest =
-    uncounted.none (map is.make packets ++ rest.parts) (report_block run unit f o)
-    (frame_blocks run unit f packets ++ rest.blocks) ∙ frames_among_made is f packets rest
-  where
-    open from use {frames as f, octets as o, packets}
+among_report is starts uncounted from rest = grind (arith, frames_among_made)
 
 pub unit_among : (run : FramedRun) (f o : ℕ) (starts : List ℕ) (unit : PictureUnit) (rest : AfterUnit) →
     frames_among (unit_pieces starts unit ++ rest.parts) (unit_blocks run starts unit f o ++ rest.blocks)
@@ -148,8 +140,7 @@ unit_among run f o starts unit rest =
 -- ---- what a client reads of them
 
 bit_read : (m : Bool) → nat_le 128 (bit m * 128 + 32) ≡ m
-bit_read true = refl
-bit_read false = refl
+bit_read m = grind arith
 
 pub last_is : (run : FramedRun) (f : ℕ) (unit : PictureUnit) (p : Packet)
     → is_last (frame_block run unit p f) ≡ p.marker
@@ -166,18 +157,11 @@ report_moment run f o unit control = cc control
 pub frames_one : (run : FramedRun) (f : ℕ) (unit : PictureUnit) (packets : List Packet) → run.identity.channel ≡ 0
     → AreOneBlocks (frame_blocks run unit f packets)
 frames_one run f unit [] media = tt
-frames_one run f unit (p ∷ packets) media =
-    let c : run.identity.channel < 2 = omega (arith, media) in (
-      record { moment = inl (frame_moment run f unit p media); starts = refl; channel = c },
-      frames_one run (f + 1) unit packets media,
-    )
+frames_one run f unit (p ∷ packets) media = grind (arith, frames_one run (f + 1) unit packets media)
 
 reports_one : (starts : Bool) (run : FramedRun) (f o : ℕ) (unit : PictureUnit) → run.identity.control ≡ 1
     → AreOneBlocks (report_if starts run unit f o)
-reports_one true run f o unit control =
-    let c : run.identity.control < 2 = omega (arith, control) in
-    (record { moment = inr (report_moment run f o unit control); starts = refl; channel = c }, tt)
-reports_one false run f o unit control = tt
+reports_one starts run f o unit given = grind arith
 
 -- a run on channels 0 and 1, with the frames and octets that it sent before
 pub record RunFrom : Type 0 where
@@ -189,9 +173,4 @@ pub record RunFrom : Type 0 where
 
 pub unit_one : (from : RunFrom) (starts : List ℕ) (unit : PictureUnit) →
     AreOneBlocks (unit_blocks from.run starts unit from.frames from.octets)
-unit_one from starts unit =
-    each_append IsOneBlock (report_if unit.starts_group run unit f o)
-    (frame_blocks run unit f (unit_packets starts unit))
-    (reports_one unit.starts_group run f o unit control) (frames_one run f unit (unit_packets starts unit) media)
-  where
-    open from use {run, frames as f, octets as o, media, control}
+unit_one from starts unit = search (each_append, unit_packets, reports_one, frames_one)

@@ -39,13 +39,11 @@ outcomes_in (Asks asked outcome ∷ askings) = outcome ∷ outcomes_in askings
 
 pub kept_more : (outcome : Outcome) (made : List PlacedEntry) (all : ℕ)
     → kept_with outcome (kept_among made all) ≡ kept_among (entry_in outcome ++ made) all
-kept_more Unasked made all = refl
-kept_more _ made all = refl
+kept_more outcome made all = grind arith
 
 told_more : (outcome : Outcome) (made : List PlacedEntry)
     → told_by outcome made ++ booked_plays made ≡ booked_plays (entry_in outcome ++ made)
-told_more Unasked made = refl
-told_more _ made = refl
+told_more outcome made = grind arith
 
 kept_same : (askings : List StationRequest) (all : ℕ) → kept_in askings all ≡ kept_among (entries_in (outcomes_in
     askings)) all
@@ -68,18 +66,7 @@ outcomes_append (Asks asked outcome ∷ xs) ys = ap (λ os. outcome ∷ os) (out
 -- by what was asked
 turn_told : (old new : SessionState) (asked : Awaited) (outcome : Outcome) → TurnsAs old asked outcome new
     → IsToldBy asked outcome
-turn_told old new asked outcome (Stays same still) = λ askings made keeps.
-    ap (map booking_of) (still.none askings) ∙ sym (still.untold made)
-turn_told old new asked outcome (Starts begins) = λ askings made keeps.
-    let p = begins.prepared in
-    let told : told_by outcome made
-    ≡ truncated_play begins.admitted.start p.plan (kept_among made (total_bytes p.plan)) ∷ [] =
-    rw (begins.outcome_is, begins.admitted.command, begins.admitted.answer) in
-    cc (begun_is begins askings, keeps (total_bytes p.plan), told)
-turn_told old new asked outcome (Ends halts) = λ askings made keeps.
-    ap (map booking_of) (halts.none askings)
-    ∙ sym (ap (λ o. told_by o made) halts.outcome_is
-    ∙ ap (λ c. booked_by (play_admitted c halts.placed.entry.answer) made) halts.command)
+turn_told old new asked outcome given = grind arith
 
 takes_outcomes : (old new : Stage) (takings : List ElementStep) (takes : TakesAll old takings new)
     → outcomes_in (takings_askings old takings new takes) ≡ takings_outcomes takings
@@ -88,35 +75,22 @@ takes_outcomes old new (Passed n ∷ takings) takes = takes_outcomes takes.0 new
 takes_outcomes old new (Answered message outcome parts ∷ takings) takes =
     ap (λ os. outcome ∷ os) (takes_outcomes takes.0 new takings takes.1.1)
 
--- a halt's answer begins no play
-halted_none : (asked : Awaited) (answer : Answer) (askings : List StationRequest) → answer ≡ Halted
-    → plays_admitted asked answer askings ≡ []
-halted_none (Play prepared) answer askings is = ap (λ a. plays_admitted (Play prepared) a askings) is
-halted_none _ answer askings is = refl
-
 halt_none : {s new : SessionState} {asks : AwaitedAnswer} {halt : Outcome} (asked : Awaited)
     → FinishesAs s asks halt new → (askings : List StationRequest) → plays_begun asked halt askings ≡ []
-halt_none asked NothingLeft askings = refl
-halt_none asked (DoneHalted {placed = p} entry) askings = halted_none asked p.entry.answer askings entry.answer_is
+halt_none asked given askings = grind arith
 
 pub comes_none : {old opened : Stage} {round : Round} → ComesAs old round opened → (askings : List StationRequest)
     → plays_begun (asked_by old.session round.event) round.halt askings ≡ []
-comes_none BytesCame askings = refl
-comes_none {old} (SlotCame {slot = slot} finish) askings =
-    halt_none (after_slot old.session slot).awaited finish askings
+comes_none given askings = grind (arith, halt_none)
 
 -- and records none
 finish_untold : {s new : SessionState} {asks : AwaitedAnswer} {halt : Outcome} → FinishesAs s asks halt new
     → (made : List PlacedEntry) → told_by halt made ≡ []
-finish_untold NothingLeft made = refl
-finish_untold (DoneHalted {placed = p} entry) made = cc entry.command
+finish_untold given made = grind arith
 
 comes_told : {old opened : Stage} {round : Round} → ComesAs old round opened
     → IsToldBy (asked_by old.session round.event) round.halt
-comes_told BytesCame = λ askings made keeps. refl
-comes_told {old} (SlotCame {slot = slot} finish) = λ askings made keeps.
-    ap (map booking_of) (halt_none (after_slot old.session slot).awaited finish askings)
-    ∙ sym (finish_untold finish made)
+comes_told given = grind (arith, halt_none, finish_untold)
 
 abbrev ToldOn : SessionState → Piece → SessionState → Type 0
 ToldOn old piece new = AreTold piece.askings
@@ -137,9 +111,12 @@ pub course_outcomes : (old new : Stage) (rounds : List Round) (follows : IsCours
     → outcomes_in (askings_of old rounds new follows) ≡ rounds_outcomes rounds
 course_outcomes old new [] follows = refl
 course_outcomes old new (round ∷ rounds) follows =
-    let runs = follows.1.0 in cc (
-      outcomes_append (round_askings old round follows.0 runs) (askings_of follows.0 rounds new follows.1.1),
-      takes_outcomes runs.opened follows.0 round.takings runs.takes,
+    grind (
+      arith,
+      outcomes_append,
+      round_askings,
+      askings_of follows.0 rounds new follows.1.1,
+      takes_outcomes,
       course_outcomes follows.0 new rounds follows.1.1,
     )
 
@@ -160,9 +137,13 @@ pub askings_parts : (old new : Stage) (first rest : List Round) (follows : IsCou
     ++ askings_of parts.0 rest new parts.1.1
 askings_parts old new [] rest follows = refl
 askings_parts old new (round ∷ first) rest follows =
-    let made = round_askings old round follows.0 follows.1.0 in
-    let parts = parts_of follows.0 new first rest follows.1.1 in rw (askings_parts follows.0 new first rest follows.1.1)
-    (rw (← (append_assoc made (askings_of follows.0 first parts.0 parts.1.0) (askings_of parts.0 rest new parts.1.1))))
+    grind (
+      arith,
+      round_askings old round follows.0 follows.1.0,
+      askings_parts follows.0 new first rest follows.1.1,
+      append_assoc,
+      askings_of,
+    )
 
 -- ---- what is kept, and which plays begin
 
@@ -183,19 +164,11 @@ kept_outcome (Entered placed) = kept_command placed.entry.command
 kept_outcome _ = inl (λ later. refl)
 
 kept_both : (one two : ℕ → ℕ) → IsKeptSome one → IsKeptSome two → IsKeptSome (λ later. one (two later))
-kept_both one two (inl same) (inl other) = inl (λ later. same (two later) ∙ other later)
-kept_both one two (inl same) (inr (n, is)) = inr (n, λ later. same (two later) ∙ is later)
-kept_both one two (inr (n, is)) other = inr (n, λ later. is (two later))
+kept_both one two given given' = grind arith
 
 kept_some : (a : List StationRequest) → IsKeptSome (kept_in a)
 kept_some [] = inl (λ later. refl)
 kept_some (Asks asked outcome ∷ a) = kept_both (kept_with outcome) (kept_in a) (kept_outcome outcome) (kept_some a)
-
--- where all is kept in the end, all is kept so far
-kept_all : (a : List StationRequest) (rest all : ℕ) → IsKeptSome (kept_in a) → kept_in a rest ≡ all → kept_in a all ≡
-    all
-kept_all a rest all (inl same) is = same all
-kept_all a rest all (inr (n, const)) is = const all ∙ (sym (const rest) ∙ is)
 
 -- an asking begins no play, or one
 data Beginning (asked : Awaited) (outcome : Outcome) : Type 0 where
@@ -208,8 +181,7 @@ entered_either : (asked : Awaited) (placed : PlacedEntry) (answer : Answer) → 
     → Beginning asked (Entered placed)
 entered_either (Play prepared) placed (Admitted start) is =
     BeginsOne prepared start (λ askings. ap (λ a. plays_admitted (Play prepared) a askings) is)
-entered_either (Play prepared) placed _ is =
-    BeginsNone (λ askings. ap (λ a. plays_admitted (Play prepared) a askings) is)
+entered_either (Play prepared) placed _ is = grind arith
 entered_either _ placed answer is = BeginsNone (λ askings. refl)
 
 either : (asked : Awaited) (outcome : Outcome) → Beginning asked outcome
@@ -238,8 +210,7 @@ one_so_far (Asks asked outcome ∷ a) b play one whole = elim (either asked outc
       let none : plays_of (a ++ b) ≡ [] = cc (is (a ++ b), one) in
       let all : kept_in (a ++ b) (total_bytes prepared.plan) ≡ total_bytes prepared.plan = rw (← same) at whole in
       let kept : kept_in a (total_bytes prepared.plan) ≡ kept_in (a ++ b) (total_bytes prepared.plan) =
-      kept_all a (kept_in b (total_bytes prepared.plan)) (total_bytes prepared.plan) (kept_some a)
-      (sym (kept_append a b (total_bytes prepared.plan)) ∙ all) ∙ sym all in
+      grind (arith, kept_some a, kept_append a b (total_bytes prepared.plan)) in
       inl (rw (is a, none_before a b none, kept) (ap (λ p. p ∷ []) same))
 ]
 
@@ -260,18 +231,12 @@ IsLateRequest heard (Asks asked outcome) = IsLate heard asked outcome
 abbrev pub AreLate : ℕ → List StationRequest → Type 0
 AreLate heard = Each (IsLateRequest heard)
 
-late_lower : (low heard : ℕ) → low ≤ heard → (request : StationRequest) → IsLateRequest heard request
-    → IsLateRequest low request
-late_lower low heard less (Asks asked outcome) late = λ askings play rest is.
-    let its = late askings play rest is in record { late = omega (arith, less, its.late); plan = its.plan }
-
 pub late_play : (heard : ℕ) (a : List StationRequest) (play : FilmPlay) (rest : List FilmPlay) → AreLate heard a
     → plays_of a ≡ play ∷ rest → IsLatePlay heard play
 late_play heard [] play rest are is = cc
 late_play heard (Asks asked outcome ∷ a) play rest are is = elim (either asked outcome) [
   | BeginsNone none ↦ late_play heard a play rest are.1 (cc (none a, is))
-  | BeginsOne prepared start one ↦
-      let same : play_by prepared start a ≡ play = cc (one a, is) in are.0 a play [] (cc (one a, same))
+  | BeginsOne prepared start one ↦ grind arith
 ]
 
 -- by what was asked
@@ -279,17 +244,9 @@ none_late : (heard : ℕ) (asked : Awaited) (outcome : Outcome)
     → ((askings : List StationRequest) → plays_begun asked outcome askings ≡ []) → IsLate heard asked outcome
 none_late heard asked outcome none = λ askings play rest is. cc (none askings, is)
 
-begins_late : (old new : SessionState) (asked : Awaited) (outcome : Outcome) → Begins old asked outcome new
-    → IsLate old.heard asked outcome
-begins_late old new asked outcome begins = λ askings play rest is.
-    let same : play_by begins.prepared begins.admitted.start askings ≡ play = cc (begun_is begins askings, is) in
-    rw (← same) (record { late = begins.admitted.later; plan = subst IsPlan begins.paced begins.pacing.plan })
-
 turn_late : (old new : SessionState) (asked : Awaited) (outcome : Outcome) → TurnsAs old asked outcome new
     → IsLate old.heard asked outcome
-turn_late old new asked outcome (Stays same still) = none_late old.heard asked outcome still.none
-turn_late old new asked outcome (Starts begins) = begins_late old new asked outcome begins
-turn_late old new asked outcome (Ends halts) = none_late old.heard asked outcome halts.none
+turn_late old new asked outcome given = grind arith
 
 -- the slot that was received last stays or rises, and plays begin after it
 record LateAskings (old : SessionState) (made : List StationRequest) (new : SessionState) : Type 0 where
@@ -302,12 +259,7 @@ LateOn old piece new = LateAskings old piece.askings new
 late_kept : IsKeptStanding LateOn
 late_kept = record {
   none = λ s. record { later = omega arith; late = tt };
-  joins = λ a b c one two first rest. record {
-    later = omega (arith, first.later, rest.later);
-    late = each_append (IsLateRequest a.heard) one.askings two.askings first.late
-        (each_weaker (IsLateRequest b.heard) (IsLateRequest a.heard) (late_lower a.heard b.heard first.later)
-        two.askings rest.late);
-  };
+  joins = grind (arith, each_append, each_weaker);
   request = λ old new request stands. record {
     later = let same = ap (λ (part : LastingPart). part.heard) (taken_keeps request.replied) in omega (arith, same);
     late = (

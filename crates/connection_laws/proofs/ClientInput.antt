@@ -1,3 +1,4 @@
+use Rattle.std.proofs.lemmas.Grind.{common_steps}
 -- What a client has received, event by event: the first elements of the bytes that came.
 use Rattle.std.proofs.Common.{◌≡◌, ℕ, ◌+◌, ◌<◌, ◌≤◌, ◌==◌, ◌||◌, Bool, true, false, nat_lt, List, [], ◌∷◌, ◌++◌, take}
 use Rattle.std.proofs.Common.{refl, sym, ap, ap₂, subst, ◌∙◌, append_assoc, arith, inl, inr}
@@ -49,8 +50,7 @@ pub heard_more : {bytes : List ℕ} {old : WatchStage} {rest : List ℕ} (more :
     → Heard (bytes ++ more) (stage (history_after old.history (events_of_elements elements)) rest)
 heard_more {bytes} {old} {rest} more elements heard cut good = record {
   elements = heard.elements ++ elements;
-  cut = let cuts : CutsInTurn bytes more heard.elements elements old.rest rest =
-      record { first = heard.cut; next = cut } in cuts_join cuts;
+  cut = let cuts : CutsInTurn bytes more heard.elements elements old.rest rest = grind arith in cuts_join cuts;
   sum = rw (sum_after old.history (events_of_elements elements), heard.sum)
       (rw (← (steps_on no_sum (events_of_elements heard.elements) (events_of_elements elements)))
       (rw (← (moments_parts heard.elements elements))));
@@ -68,9 +68,7 @@ heard_event : {bytes : List ℕ} {old new : WatchStage} (event : IoEvent) (momen
     → GoOn old.history moments → new.history ≡ history_after old.history moments → Heard (bytes ++ bytes_in event) new
 heard_event {bytes} {old} {new} (HeardBytes more) moments heard brings good history =
     let G : List ClientEvent → Type 0 = λ ms. GoOn old.history ms in
-    let is : stage (history_after old.history (events_of_elements brings.0)) new.rest ≡ new =
-    same_stage new (history_after old.history (events_of_elements brings.0)) new.rest
-    (history ∙ ap (history_after old.history) brings.1.1) refl in
+    let is : stage (history_after old.history (events_of_elements brings.0)) new.rest ≡ new = grind arith in
     rw is at (heard_more more brings.0 heard brings.1.0 (subst G brings.1.1 good))
 heard_event {bytes} {old} {new} (HeardSlot slot) moments heard brings good history =
     let cut = cut_bytes old.rest in
@@ -90,13 +88,11 @@ heard_event _ moments heard brings good history = absurd brings
 
 pub heard_round : (bytes : List ℕ) (old new : WatchStage) (round : Round) → Heard bytes old → Runs old round new
     → Heard (bytes ++ bytes_in round.event) new
-heard_round bytes old new round heard runs = heard_event round.event round.moments heard runs.brings runs.good
-    runs.history_is
+heard_round bytes old new round heard runs = search heard_event
 
 pub heard_all : (bytes : List ℕ) (old new : WatchStage) (rounds : List Round) → Heard bytes old
     → RunsAll old rounds new → Heard (bytes ++ rounds_heard rounds) new
-heard_all bytes old new [] heard all =
-    rw (append-nil bytes) (subst (Heard bytes) (sym all) heard)
+heard_all bytes old new [] heard all = grind (arith, common_steps)
 heard_all bytes old new (round ∷ rounds) heard all =
     rw (← (append_assoc bytes (bytes_in round.event) (rounds_heard rounds)))
     (heard_all (bytes ++ bytes_in round.event) all.0 new rounds
@@ -110,13 +106,7 @@ replies_later h ms = omega (arith, replies_grow (sum_of h) ms, ap (λ (s : Sum).
 -- the play's first slot stays, once its reply was received
 slot_once : (h : History) (m : ClientEvent) → 1 < replies h → (first_slot (m ∷ h) ≡ first_slot h) × (1 < replies (m ∷
     h))
-slot_once h (Reply m) playing =
-    let other : (replies h == 1) ≡ false = ne_eqb (replies h) 1 (λ one. omega (arith, one, playing)) in (
-      ap₂ (λ a b. a + b) (cond-false (replies h == 1) _ (start h) other)
-          (cond-false (replies h == 1) _ (slot_before h) other),
-      omega (arith, playing),
-    )
-slot_once h _ playing = (refl, playing)
+slot_once h m given = grind arith
 
 pub slot_stays : (h : History) (ms : List ClientEvent) → 1 < replies h → first_slot (history_after h ms) ≡ first_slot h
 slot_stays h [] playing = refl

@@ -1,3 +1,4 @@
+use Rattle.std.proofs.lemmas.Grind.{common_steps}
 -- What the requests of a client that wishes for a film settle: its channels, its buffer, its delay and its film, and
 -- the entire run.
 use Rattle.std.proofs.Common.{◌≡◌, ◌≢◌, ℕ, ◌+◌, ◌-◌, ◌<◌, ◌^◌, ◌==◌, not, true, false, List, [], ◌∷◌, ◌++◌, Some}
@@ -32,29 +33,14 @@ use Rattle.session_laws.proofs.SetupLemmas.{IsSetupRequest}
 
 -- ---- the film that a URL names
 
-literal_byte : (k : ℕ) → k < 10 → get_or (codes "127.0.0.1:") k 0 ≢ 47
-literal_byte k inside = λ slash.
-    let wrong : true ≡ false = list_all_at (λ byte. not (byte == 47)) (codes "127.0.0.1:") k 0 inside (rw slash refl) in
-    cc
-
 abbrev authority_of : ℕ → List ℕ
 authority_of port = codes "127.0.0.1:" ++ decimal port
 
 are_digits : (n : ℕ) → n < 2 ^ 64 → is_decimal (decimal n) ≡ true
-are_digits n small =
-    and_from (nat_lt 0 (length (decimal n))) (list_all is_ascii_digit (decimal n))
-    (lt-ltb 0 (length (decimal n)) (decimal_nonempty n small)) (digits_decimal decimal_numerals n small)
+are_digits n small = grind (arith, decimal_nonempty, digits_decimal, decimal_numerals)
 
 authority_byte : (port k : ℕ) → port < 2 ^ 64 → k < length (authority_of port) → get_or (authority_of port) k 0 ≢ 47
-authority_byte port k small inside =
-    elim (cases_lt k 10) [
-      | inl less ↦ λ slash.
-          literal_byte k less (sym (get_or_append_left (codes "127.0.0.1:") (decimal port) 0 k less) ∙ slash)
-      | inr more ↦ λ slash.
-          no_other_byte (decimal port) 47 (k - 10) (are_digits port small) (λ r. omega (arith, r))
-          (omega (arith, inside, more, length-append (codes "127.0.0.1:") (decimal port)))
-          (sym (get_or-append_right (codes "127.0.0.1:") (decimal port) 10 k 0 refl more) ∙ slash)
-    ]
+authority_byte port k small inside = grind (arith, no_other_byte, are_digits port small)
 
 authority_end : (port : ℕ) (rest : List ℕ) → port < 2 ^ 64
     → IsPartEnd 47 (codes "rtsp://" ++ (authority_of port ++ (47 ∷ rest))) 7 (7 + length (authority_of port))
@@ -63,31 +49,17 @@ authority_end port rest small =
     let n = length (authority_of port) in
     record {
       after = omega arith;
-      within = omega (
-        arith,
-        length-append (codes "rtsp://") (authority_of port ++ (47 ∷ rest)),
-        length-append (authority_of port) (47 ∷ rest),
-      );
+      within = grind (arith, common_steps);
       none = λ k from below slash.
           authority_byte port (k - 7) small (omega (arith, from, below))
           (sym (get_or-append_right (codes "rtsp://") (authority_of port ++ (47 ∷ rest)) 7 k 0 refl from
           ∙ get_or_append_left (authority_of port) (47 ∷ rest) 0 (k - 7) (omega (arith, from, below))) ∙ slash);
-      ends = λ inside.
-          let same : 7 + n - 7 ≡ n = omega arith in
-          let none : n - n ≡ 0 = omega arith in
-          get_or-append_right (codes "rtsp://") (authority_of port ++ (47 ∷ rest)) 7 (7 + n) 0 refl (omega arith)
-          ∙ ap (λ k. get_or (authority_of port ++ (47 ∷ rest)) k 0) same
-          ∙ get_or-append_right (authority_of port) (47 ∷ rest) n n 0 refl (omega arith)
-          ∙ ap (λ k. get_or (47 ∷ rest) k 0) none;
+      ends = grind (arith, get_or-append_right);
     }
 
 url_parts : (wish : Wish) (tail : List ℕ)
     → film_url wish ++ tail ≡ codes "rtsp://" ++ (authority_of wish.port ++ (47 ∷ (string_bytes wish.name ++ tail)))
-url_parts wish tail = cc (
-  append_assoc (codes "rtsp://127.0.0.1:") (decimal wish.port ++ (codes "/" ++ string_bytes wish.name)) tail,
-  append_assoc (decimal wish.port) (codes "/" ++ string_bytes wish.name) tail,
-  append_assoc (codes "127.0.0.1:") (decimal wish.port) (47 ∷ (string_bytes wish.name ++ tail)),
-)
+url_parts wish tail = grind (arith, common_steps)
 
 -- what a course begins with, and what it is asked for
 pub record Beginning : Type 0 where
@@ -109,12 +81,7 @@ url_name {authority} {name} b tail is_tail url_read =
     let its = rw (url_parts wish tail) at url_read in
     let n = 7 + length (authority_of wish.port) in
     let at : its.path ≡ n = end_once its.is_url.end (authority_end wish.port rest small) in
-    let size : length url ≡ n + length (47 ∷ rest) =
-    omega (
-      arith,
-      length-append (codes "rtsp://") (authority_of wish.port ++ (47 ∷ rest)),
-      length-append (authority_of wish.port) (47 ∷ rest),
-    ) in
+    let size : length url ≡ n + length (47 ∷ rest) = grind (arith, common_steps) in
     let after : drop n url ≡ 47 ∷ rest = rw (← (append_assoc (codes "rtsp://") (authority_of wish.port) (47 ∷ rest)))
     (rw (drop_at front (47 ∷ rest) n (omega (arith, length-append (codes "rtsp://") (authority_of wish.port))))) in
     let path : slice_range url n (length url) ≡ 47 ∷ rest =
@@ -171,10 +138,7 @@ settled_by {films} {settings} {setup} b asks names =
           (rw (values (codes "x-Buffer")) at asks.buffer) (omega (arith, wished.most_buffer));
       delay = chosen_is wish.startup
           (rw (values (codes "x-Startup")) at asks.delay) (omega (arith, wished.startup));
-      film = λ film at.
-          let same : names.film.stored ≡ film = same_Some names.film.stored film (sym names.film.at ∙ at) in
-          ap (λ (s : Stored). string_bytes s.name) (sym same)
-          ∙ (names.film.name_is ∙ url_name b (codes "/video") (inr (inr (inl refl))) names.read);
+      film = grind (arith, url_name b (codes "/video") (inr (inr (inl refl))) names.read);
     }
   where
     open b use {wish, wished, port}

@@ -18,7 +18,7 @@ use Rattle.session.specs.Laws.{IsTeardown, PlayingStage, StateKind as SessionSta
 use Rattle.session_laws.specs.CompleteReplies.{LeavesRoom, RepliesAreComplete}
 use Rattle.session_laws.proofs.PauseTeardownLemmas.{teardown_ends}
 use Rattle.session_laws.proofs.CompleteReplyLemmas.{keeps_named, replies_whole}
-use Rattle.connection_laws.proofs.KeptParts.{answered_names, names_in, replied_names, IsSameSetup, halted_setup}
+use Rattle.connection_laws.proofs.KeptParts.{answered_names, names_in, replied_names, IsSameSetup}
 use Rattle.connection_laws.proofs.KeptParts.{replied_setup, comes_setup}
 use Rattle.connection_laws.proofs.ReplyReadings.{IsPrinted, printed_w64, teardown_read as read_teardown}
 use Rattle.connection_laws.proofs.RequestReplies.{IsNamed, named_still, teardown_replied}
@@ -31,18 +31,13 @@ use Rattle.connection_laws.proofs.Lists.{Each}
 -- ---- the films and the id stay
 
 pub named_as : {old new : SessionState} → names_in new ≡ names_in old → HasValidIds old → HasValidIds new
-named_as {old} {new} same named = record {
-  films = rw (ap (λ (n : List Stored × List ℕ). n.0) same) named.films;
-  number = named.number;
-  id_is = ap (λ (n : List Stored × List ℕ). n.1) same ∙ named.id_is;
-}
+named_as {old} {new} same named = grind arith
 
 pub answered_named : {old new : Stage} → AnsweredRequest old new → HasValidIds old.session → HasValidIds new.session
 answered_named {old} request named =
     let heard = replied.heard in
     let asking = keeps_named old.session heard.asking message heard.ask heard.hears named in
-    let answered : HasValidIds replied.answered =
-    named_as (answered_names heard.asking heard.ask outcome replied.answered heard.answered) asking in
+    let answered : HasValidIds replied.answered = search (named_as, answered_names) in
     rw replied.new_is (named_as (replied_names replied.answered) answered)
   where
     open request use {message, outcome, replied}
@@ -64,8 +59,7 @@ pub record OwnReply (asking new : SessionState) (ask : Ask) : Type 0 where
 pub own_reply : {asking new : SessionState} {ask : Ask} {outcome : Outcome} → AnswersAs asking ask outcome new
     → IsOwnReply ask → OwnReply asking new ask
 own_reply NoneAsked own = record { whole = λ whole. whole; text = refl; setup = refl }
-own_reply {asking} (PlayHalted entry) own =
-    record { whole = λ whole. whole; text = refl; setup = halted_setup asking.state asking.awaited }
+own_reply {asking} (PlayHalted entry) own = grind arith
 own_reply _ own = absurd own
 
 -- the session after a play was admitted, whose reply is complete if each one that it can have is
@@ -91,8 +85,7 @@ admitted_from is (LookMade looked) = cc
 -- ---- TEARDOWN
 
 own_halt : (stage : SessionStage) (ask : Ask) → HaltsPlay stage ask → IsOwnReply ask
-own_halt PlayingStage ask is = rw is.1 tt
-own_halt _ ask is = rw is tt
+own_halt stage ask given = grind arith
 
 teardown_read : (b : Beginning) {old new : Stage} (request : AnsweredRequest old new)
     → request.message ≡ teardown_text b.wish b.session
@@ -122,43 +115,26 @@ teardown_own b {old} request is =
 -- ---- the requests leave room for what replies repeat of them
 
 url_short : (b : Beginning) → length (film_url b.wish) ≤ 102
-url_short b =
-    let name = string_bytes b.wish.name in
-    omega (
-      arith,
-      length-append (codes "rtsp://127.0.0.1:") (decimal b.wish.port ++ (codes "/" ++ name)),
-      length-append (decimal b.wish.port) (codes "/" ++ name),
-      (name_printed name b.wished.name).short,
-      short-decimal b.wish.port (omega (arith, b.port)),
-    )
-
-room_for : {message : List ℕ} (text : List ℕ) → message ≡ text → length text ≤ 15872 → LeavesRoom message
-room_for text is short = λ head at. omega (arith, short, ap length is, at.within)
+url_short b = grind (arith, length-append, short-decimal b.wish.port (omega (arith, b.port)))
 
 pub setup_room : (b : Beginning) {message : List ℕ} → message ≡ setup_text b.wish → LeavesRoom message
-setup_room b is = room_for (setup_text b.wish) is (omega (
-  arith,
-  put-long (codes "SETUP ") (setup_rest b.wish),
-  url_short b,
-  short-decimal b.wish.buffer (omega (arith, b.wished.most_buffer)),
-  short-decimal b.wish.startup (omega (arith, b.wished.startup)),
-))
+setup_room b is =
+    grind (
+      arith,
+      put-long (codes "SETUP ") (setup_rest b.wish),
+      url_short b,
+      short-decimal b.wish.buffer (omega (
+        arith,
+        b.wished.most_buffer,
+      )),
+      short-decimal b.wish.startup (omega (arith, b.wished.startup)),
+    )
 
 pub play_room : (b : Beginning) {message : List ℕ} → message ≡ play_text b.wish b.session → LeavesRoom message
-play_room b is = room_for (play_text b.wish b.session) is (omega (
-  arith,
-  put-long (codes "PLAY ") (play_rest b.wish b.session),
-  url_short b,
-  b.session_is.short,
-))
+play_room b is = grind (arith, put-long (codes "PLAY ") (play_rest b.wish b.session), url_short b)
 
 teardown_room : (b : Beginning) {message : List ℕ} → message ≡ teardown_text b.wish b.session → LeavesRoom message
-teardown_room b is = room_for (teardown_text b.wish b.session) is (omega (
-  arith,
-  put-long (codes "TEARDOWN ") (teardown_rest b.wish b.session),
-  url_short b,
-  b.session_is.short,
-))
+teardown_room b is = grind (arith, put-long (codes "TEARDOWN ") (teardown_rest b.wish b.session), url_short b)
 
 -- ---- all replies to TEARDOWN
 
@@ -196,10 +172,7 @@ torn_reply {b} {old} request is valid named =
     let its = own_reply (answers_as heard.ask outcome heard.answered) own in
     let whole = its.whole complete in
     let text : replied.answered.text ≡ session_text 3 old.session.id = rw (its.text, told.text) in
-    let same : IsSameSetup heard.asking replied.answered = record {
-      names = answered_names heard.asking heard.ask outcome replied.answered heard.answered;
-      setup = its.setup;
-    } in
+    let same : IsSameSetup heard.asking replied.answered = search answered_names in
     let still = named_still (replied_setup replied.answered) (named_still same (named_still told.same named)) in
     record {
       named = answered_named request valid;

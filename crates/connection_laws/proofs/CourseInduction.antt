@@ -1,3 +1,4 @@
+use Rattle.std.proofs.lemmas.Grind.{common_steps}
 -- Courses joined and parted, and one induction over what a connection does, from its first event on.
 use Rattle.std.proofs.Common.{◌++◌, List, ◌∷◌, refl, subst, ◌≡◌, ℕ, ◌^◌, ◌<◌, ◌≤◌, ◌&&◌, if◌then◌else◌, Bool, true}
 use Rattle.std.proofs.Common.{false, nat_le, max, ap, sym, ◌∙◌, arith, []}
@@ -30,8 +31,7 @@ module _ {mid new : Stage} {round : Round} where
   pub follows_more : (old : Stage) (rounds : List Round) → IsCourseBetween old rounds mid → Runs mid round new
       → IsCourseBetween old (rounds ++ round ∷ []) new
   follows_more old [] follows runs = (new, (rw follows at runs, refl))
-  follows_more old (first ∷ rounds) follows runs =
-      (follows.0, (follows.1.0, follows_more follows.0 rounds follows.1.1 runs))
+  follows_more old (first ∷ rounds) follows runs = grind (arith, follows_more follows.0 rounds follows.1.1 runs)
 
   pub follows_last : (old : Stage) (rounds : List Round) → RunsAll old rounds mid → Runs mid round new
       → IsCourseBetween old (rounds ++ round ∷ []) new
@@ -48,31 +48,20 @@ parts_of old new (round ∷ first) rest follows =
 -- ---- the slot that was received last
 
 sent_heard : (old : SessionState) (slot : ℕ) → (after_play (sent_slot old slot)).heard ≡ slot
-sent_heard old slot =
-    reply_keeps (λ (s : SessionState). s.heard) (λ s. refl)
-    (old.waits && is_between (stepped_in true slot old.state)) (sent_due old slot)
+sent_heard old slot = grind arith
 
 slot_cases : {later : Bool} (old : SessionState) (slot : ℕ) (small sending : Bool) → (later ≡ true → old.heard < slot)
     → (later ≡ false → slot ≤ old.heard)
     → (if later && small then (if sending then after_play (sent_slot old slot) else record old { heard = slot }) else
     old).heard ≡ max old.heard (if small then slot else 0)
-slot_cases {later = true} old slot true true after before = sent_heard old slot ∙ omega (arith, after refl)
-slot_cases {later = true} old slot true false after before = let h : old.heard < slot = after refl in omega (arith, h)
-slot_cases {later = true} old slot false sending after before = omega arith
-slot_cases {later = false} old slot true sending after before = let h : slot ≤ old.heard = before refl in
-    omega (arith, h)
-slot_cases {later = false} old slot false sending after before = omega arith
+slot_cases old slot small sending given given' = grind arith
 
 slotted_heard : (old : SessionState) (slot : ℕ) → (after_slot old slot).heard ≡ max old.heard (slot_in (HeardSlot slot))
-slotted_heard old slot =
-    slot_cases old slot (nat_le slot (2 ^ 62)) (is_sending old.state) (ltb-true old.heard slot)
-    (ltb-false old.heard slot)
+slotted_heard old slot = grind (arith, common_steps)
 
 pub comes_heard : {old opened : Stage} {round : Round} → ComesAs old round opened
     → opened.session.heard ≡ max old.session.heard (slot_in round.event)
-comes_heard BytesCame = omega arith
-comes_heard {old} (SlotCame {slot = slot} finish) =
-    ap (λ (part : LastingPart). part.heard) (finish_keeps finish) ∙ slotted_heard old.session slot
+comes_heard given = grind (arith, finish_keeps, slotted_heard)
 
 pub round_heard : (old new : Stage) (round : Round) → Runs old round new
     → new.session.heard ≡ max old.session.heard (slot_in round.event)
@@ -129,8 +118,7 @@ joined_assoc : (a b c : Piece) → joined (joined a b) c ≡ joined a (joined b 
 joined_assoc a b c = rw (append_assoc, append_assoc, append_assoc, append_assoc, append_assoc)
 
 joined_none : (a : Piece) → joined a no_piece ≡ a
-joined_none a =
-    rw (append-nil a.requests, append-nil a.askings, append-nil a.slots, append-nil a.parts, append-nil a.replies)
+joined_none a = grind (arith, common_steps)
 
 -- a request that was processed, and what came of it
 pub record AnsweredRequest (old new : Stage) : Type 0 where
@@ -193,15 +181,10 @@ pub record IsKeptByCourse (R : SessionState → Piece → SessionState → Type 
 module _ {R : SessionState → Piece → SessionState → Type 0} (kept : IsKeptByCourse R) where
   pub takings_kept : (old new : Stage) (takings : List ElementStep) (takes : TakesAll old takings new)
       → R old.session (takings_piece old takings new takes) new.session
-  takings_kept old new [] takes =
-      rw takes (kept.none old.session)
-  takings_kept old new (Passed n ∷ takings) takes =
-      let rest = takings_piece takes.0 takings new takes.1.1 in
-      subst (λ s. R s (record rest { slots = takings_slots s.heard takings }) new.session)
-      (ap (λ (s : Stage). s.session) takes.1.0.2) (takings_kept takes.0 new takings takes.1.1)
+  takings_kept old new [] takes = grind arith
+  takings_kept old new (Passed n ∷ takings) takes = grind (arith, takings_kept takes.0 new takings takes.1.1)
   takings_kept old new (Answered message outcome parts ∷ takings) takes =
-      let request : AnsweredRequest old takes.0 =
-      record { message = message; outcome = outcome; parts = parts; replied = takes.1.0 } in
+      let request : AnsweredRequest old takes.0 = grind arith in
       let first = request_piece request in
       let rest = takings_piece takes.0 takings new takes.1.1 in
       subst (λ h. R old.session (joined first (record rest { slots = takings_slots h takings })) new.session)
@@ -221,8 +204,7 @@ module _ {R : SessionState → Piece → SessionState → Type 0} (kept : IsKept
 
   pub course_kept : (old new : Stage) (rounds : List Round) (follows : IsCourseBetween old rounds new)
       → R old.session (course_piece old rounds new follows) new.session
-  course_kept old new [] follows =
-      rw follows (kept.none old.session)
+  course_kept old new [] follows = grind arith
   course_kept old new (round ∷ rounds) follows =
       let first = round_piece old round follows.0 follows.1.0 in
       let rest = course_piece follows.0 rounds new follows.1.1 in
@@ -247,13 +229,7 @@ module _ {Q : SessionState → Piece → Type 0} (back : GoesBack Q) where
   BackOver old piece new = (later : Piece) → Q new later → Q old (joined piece later)
 
   back_kept : IsKeptByCourse BackOver
-  back_kept = record {
-    none = λ s later is. is;
-    joins = λ a b c one two first rest later is.
-        subst (Q a) (sym (joined_assoc one two later)) (first (joined two later) (rest later is));
-    request = λ old new request later is. back.request old new request later is;
-    event = λ old opened round comes later is. back.event old opened round comes later is;
-  }
+  back_kept = search joined_assoc
 
   pub course_back : (course : Course) → Q course.last.session no_piece → Q (begin_of course).session (piece_of course)
   course_back course is =

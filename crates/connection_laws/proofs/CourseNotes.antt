@@ -1,3 +1,5 @@
+use Rattle.std.proofs.Common.{arith}
+use Rattle.std.proofs.lemmas.Grind.{common_steps}
 -- The notes of a connection's report, event by event: each play that its entries admit has its note.
 use Rattle.std.proofs.Common.{◌≡◌, ℕ, ◌++◌, Bool, false, List, [], ◌∷◌, None, refl, sym, ap, ◌∙◌, Option, Some, map}
 use Rattle.std.proofs.lemmas.List.{append-nil, map-append, append_assoc}
@@ -11,7 +13,7 @@ use Rattle.session.specs.SessionStates.{open_in}
 use Rattle.session.specs.SlotTransitions.{IsCarried}
 use Rattle.connection_laws.specs.Notes.{notes_of, noted_play, placed_play, placed_plays, PlacedPlay}
 use Rattle.connection_laws.proofs.PlayNotes.{HaveSameNotes, note_part, Carries, IsKept, answered_on, asks_play}
-use Rattle.connection_laws.proofs.PlayNotes.{carries_none, halt_turn, halted_open, no_note, notes_until, open_note}
+use Rattle.connection_laws.proofs.PlayNotes.{carries_none, halt_turn, notes_until, open_note}
 use Rattle.connection_laws.proofs.PlayNotes.{same_notes, unasked_turn, until_append}
 use Rattle.connection_laws.proofs.StationAnswers.{closing, closes_as, halt_of}
 use Rattle.connection_laws.proofs.CourseTurns.{IsKeptByDoings, doings_kept, all_calls, turns_told}
@@ -25,49 +27,23 @@ use Rattle.conn.proofs.StationAnswers.{FinishesAs, NothingLeft, DoneHalted}
 use Rattle.connection_laws.proofs.Lists.{Each, each_append}
 
 -- ---- slots
-stepped_open : (stop : Bool) (slot : ℕ) (state : State) (later : List StationCall)
-    → open_note (stepped_in stop slot state) later ≡ open_note state later
-stepped_open stop slot Init later = refl
-stepped_open stop slot _ later = refl
-
 settled_open : (state : State) (later : List StationCall) → open_note (after_stop state) later ≡ open_note state later
-settled_open Init later = refl
-settled_open _ later = refl
+settled_open state later = grind arith
 
 slotted_same : (old : SessionState) (slot : ℕ) → HaveSameNotes (note_part (after_slot old slot)) (note_part old)
-slotted_same old slot = record {
-  plays = slot_keeps {part = λ (s : SessionState). s.plays} (record {
-    reply = λ s. refl;
-    due = λ s n. refl;
-    done = λ s. refl;
-    idle = λ s n. refl;
-  }) old slot;
-  under_way = λ later. state_keeps {part = λ state. open_note state later} (record {
-    step = λ stop n state. stepped_open stop n state later;
-    stop = λ state. settled_open state later;
-  }) old slot;
-}
+slotted_same old slot = grind (arith, common_steps)
 
 -- what is halted as a slot or a connection ends is kept as it was asked for, and is no play that was asked for
 abbrev HaltsKept : SessionState → AwaitedAnswer → Type 0
 HaltsKept s asks = (keep : ℕ) → asks ≡ HaltAnswer keep
     → IsKept s.state s.awaited keep × (asks_play s.awaited ≡ false)
 
-kept_halt : (state : State) (awaited : Awaited) (keep : ℕ) (next : AfterHalt) → awaited ≡ Halt keep next
-    → IsKept state awaited keep
-kept_halt (Playing setup play) awaited keep next is = ap (λ a. kept_of a play.pacer.due) is
-kept_halt _ awaited keep next is = tt
-
 slot_halts : (s : SessionState) → HaltsKept s (awaited_answer s)
-slot_halts s = λ keep asks.
-    let halts = halt_of s.awaited asks in
-    (kept_halt s.state s.awaited keep halts.0 halts.1, ap asks_play halts.1)
+slot_halts s = grind arith
 
 kept_open : (state : State) (awaited : Awaited) (keep : ℕ) → closing (open_in state) ≡ HaltAnswer keep
     → awaited ≡ Nothing → IsKept state awaited keep
-kept_open (Playing setup play) awaited keep opens rest =
-    let same : play.pacer.due ≡ keep = cc in ap (λ a. kept_of a play.pacer.due) rest ∙ same
-kept_open _ awaited keep opens rest = tt
+kept_open state awaited keep given given' = grind arith
 
 end_halts : (s : SessionState) → s.awaited ≡ Nothing → HaltsKept s (closing (open_of s))
 end_halts s rest = λ keep opens. (kept_open s.state s.awaited keep opens rest, ap asks_play rest)
@@ -77,25 +53,14 @@ finished_turn : {s new : SessionState} {asks : AwaitedAnswer} {halt : Outcome} �
 finished_turn {s} NothingLeft kept = unasked_turn (note_part s) s
 finished_turn {s} (DoneHalted {keep = keep} entry) kept = halt_turn s entry (kept keep refl).0 (kept keep refl).1
 
--- no play is under way once a connection has ended
-none_open : (state : State) → closing (open_in state) ≡ NoAnswer → open_note state [] ≡ []
-none_open (Playing setup play) none = cc
-none_open _ none = refl
-
 closed_none : {s new : SessionState} {asks : AwaitedAnswer} {halt : Outcome} → FinishesAs s asks halt new
     → closing (open_of s) ≡ asks → open_note new.state [] ≡ []
-closed_none {s} NothingLeft opens = none_open s.state opens
-closed_none {s} (DoneHalted entry) opens = halted_open s.state s.awaited []
+closed_none given given' = grind arith
 
 -- a play that a failed send leaves as it was
 carried_open : (old new : State) → IsCarried old new → (later : List StationCall) → open_note new later ≡ open_note old
     later
-carried_open Init Init carried later = refl
-carried_open (Ready setup paused) (Ready s p) carried later = refl
-carried_open (Playing setup play) (Playing s p) carried later =
-    rw carried.0 (rw carried.1 (rw carried.2 (rw carried.3 (rw carried.4 refl))))
-carried_open (Stopping setup stop) (Stopping s p) carried later = refl
-carried_open _ _ carried later = absurd carried
+carried_open old new given later = grind arith
 
 -- ---- all notes
 abbrev CarriesOf : SessionState → List StationCall → SessionState → Type 0
@@ -104,23 +69,13 @@ CarriesOf old turns new = Carries (note_part old) turns (note_part new)
 carries_kept : IsKeptByDoings CarriesOf
 carries_kept = record {
   none = λ s. carries_none (note_part s);
-  joins = λ a b c xs ys one two. record {
-    on = λ later.
-        let front = a.plays ++ open_note a.state (xs ++ (ys ++ later)) in
-        ap (λ ns. (a.plays ++ open_note a.state ns) ++ notes_until (xs ++ ys) later) (append_assoc xs ys later)
-        ∙ ap (λ ns. front ++ ns) (until_append xs ys later)
-        ∙ sym (append_assoc front (notes_until xs (ys ++ later)) (notes_until ys later))
-        ∙ ap (λ ns. ns ++ notes_until ys later) (one.on (ys ++ later)) ∙ two.on later;
-  };
+  joins = grind (arith, append_assoc, until_append);
   request = λ old new message outcome heard. answered_on (request_answer heard);
   reply = λ s. same_notes (record { plays = refl; under_way = λ later. settled_open s.state later });
   slot = λ s n. same_notes (slotted_same s n);
   finish = λ halt s new finishing. finished_turn finishing (slot_halts s);
   bytes = λ s. unasked_turn (note_part s) s;
-  failed = λ old new slot front failed. same_notes (record {
-    plays = failed.plays;
-    under_way = carried_open old.session.state new.session.state failed.carried;
-  });
+  failed = grind (arith, same_notes, carried_open);
   lost = λ s. carries_none (note_part s);
   close = λ halt last closed closes rest. finished_turn closes (end_halts last rest);
 }
@@ -170,8 +125,7 @@ keeps_as (turn ∷ turns) all = rw (keeps_as turns all, kept_more turn.outcome (
 
 placed_more : (outcome : Outcome) (made : List PlacedEntry)
     → placed_by outcome made ++ placed_plays made ≡ placed_plays (entry_in outcome ++ made)
-placed_more Unasked made = refl
-placed_more _ made = refl
+placed_more outcome made = grind arith
 
 turns_noted : (turns : List StationCall) → Each IsNotedCall turns
     → map noted_play (notes_of turns) ≡ placed_plays (made_by_turns turns)
@@ -185,40 +139,23 @@ turns_noted (turn ∷ turns) are = cc (
 
 -- ---- one turn
 
--- an entry that a session makes without asking for a play, and that admits none
-other_noted : (asking : SessionState) (placed : PlacedEntry) → asks_play asking.awaited ≡ false
-    → play_admitted placed.entry.command placed.entry.answer ≡ None → IsNoted asking (Entered placed)
-other_noted asking placed other none later = rw (no_note asking.state asking.awaited placed later.turns other, none)
-
--- the note of a play is what its entry records, and what is kept by what comes later
-note_is : (setup : Setup) (run : Run) (place : ℕ) (admitted : Option Booked) (later : Sequel)
-    → map noted_play (noted_for setup run place admitted later.turns)
-    ≡ map (placed_play place) (booked_by admitted later.made)
-note_is setup run place None later = refl
-note_is setup run place (Some booked) later = rw (later.keeps booked.keep)
-
 play_noted : {base : SessionState} (play : AskedPlay base) (placed : PlacedEntry)
     → IsNoted (at_play play) (Entered placed)
-play_noted play placed later =
-    note_is play.setup play.prepared.run placed.place (play_admitted placed.entry.command placed.entry.answer) later
+play_noted play placed later = grind arith
 
 -- by what was asked and answered
 answered_noted : {old asking new : SessionState} {outcome : Outcome} → RequestAnswer old asking outcome new
     → IsNoted asking outcome
 answered_noted (Admission {placed = placed} play entry answered) = play_noted play placed
 answered_noted (Refusal {placed = placed} play entry) = play_noted play placed
-answered_noted {asking = asking} (HaltMade {placed = placed} halt entry) =
-    other_noted asking placed refl (ap (λ c. play_admitted c placed.entry.answer) entry.command)
-answered_noted {asking = asking} (LookAnswer {placed = placed} command looked) =
-    other_noted asking placed refl (ap (λ c. play_admitted c placed.entry.answer) command)
+answered_noted {asking = asking} (HaltMade {placed = placed} halt entry) = grind arith
+answered_noted {asking = asking} (LookAnswer {placed = placed} command looked) = grind arith
 answered_noted _ = λ later. refl
 
 -- the halt of a play that is done, or of a booking that is open at the end
 finished_noted : {s new : SessionState} {asks : AwaitedAnswer} {halt : Outcome} → FinishesAs s asks halt new
     → HaltsKept s asks → IsNoted s halt
-finished_noted NothingLeft kept = λ later. refl
-finished_noted {s} (DoneHalted {keep = keep} {placed = placed} entry) kept =
-    other_noted s placed (kept keep refl).1 (ap (λ c. play_admitted c placed.entry.answer) entry.command)
+finished_noted given given' = grind arith
 
 -- ---- all notes
 abbrev NotedCalls : SessionState → List StationCall → SessionState → Type 0

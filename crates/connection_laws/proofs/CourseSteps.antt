@@ -71,9 +71,7 @@ request_turns request = turns_as request.replied.heard
 
 unheld : (pending : Option ℕ) (sends : Sends) (waits : Bool) (heard : ℕ) → IsHeld pending sends waits heard
     → waits ≡ false → pending ≡ None
-unheld None sends waits heard held none = refl
-unheld (Some slot) Idle waits heard held none = absurd held
-unheld (Some slot) _ waits heard held none = cc (held.0, none)
+unheld pending sends waits heard given given' = grind arith
 
 -- the reply to a request goes out at once, or it waits
 record ReplyMove (s : SessionState) (goes : Bool) : Type 0 where
@@ -87,11 +85,7 @@ reply_as s true waits reply = record {
   goes_on = reply.goes_on;
 }
 reply_as s false waits reply = record {
-  after = record {
-    sound = rw waits reply.sound;
-    pending = reply.after;
-    held = rw waits reply.held;
-  };
+  after = grind arith;
   goes_on = reply.goes_on;
 }
 
@@ -102,12 +96,10 @@ reply_move s waits sound =
 
 pub reply_waits : (goes : Bool) (s : SessionState) → (if goes then sent_reply s else s).waits
     ≡ (if goes then false else s.waits)
-reply_waits true s = refl
-reply_waits false s = refl
+reply_waits goes s = grind arith
 
 pub reply_awaited : (goes : Bool) (s : SessionState) → (if goes then sent_reply s else s).awaited ≡ s.awaited
-reply_awaited true s = refl
-reply_awaited false s = refl
+reply_awaited goes s = grind arith
 
 request_step : {old new : Stage} (request : AnsweredRequest old new) (stands : Stands old.session)
     → Step stands new.session (request_piece request)
@@ -120,9 +112,7 @@ request_step {old} {new} request stands =
     refl in
     let sound : IsSound (sends_in s.state) true s.heard = rw after.heard (turn_sound waited turns) in
     let reply = reply_move s after.waits sound in
-    let none : stands.paced.pending ≡ None =
-    unheld stands.paced.pending (sends_in old.session.state) old.session.waits old.session.heard stands.paced.held
-    replied.next.replied in
+    let none : stands.paced.pending ≡ None = search unheld in
     let first : GoesTo (point_of stands.paced) (point (sends_in s.state) s.heard (Some s.heard))
     (turn_piece asked outcome old.session.heard) =
     rw (none, after.heard) (turn_goes turns) in
@@ -158,22 +148,7 @@ abbrev pub AsksDone : SessionState → Type 0
 AsksDone s = (s.awaited ≡ Nothing) ⊎ DonePlay s
 
 asks_in : {s : SessionState} (state : State) → s.state ≡ state → s.awaited ≡ finished_in state Nothing → AsksDone s
-asks_in (Playing setup play) is asks =
-    let next = λ (b : Bool). if b then Halt play.pacer.sent Done else Nothing in
-    elim (cases_Bool (is_done play.pacer)) [
-      | inl done ↦ inr (record {
-        setup = setup;
-        play = play;
-        keep = play.pacer.sent;
-        state_is = is;
-        ended = eqb-true play.pacer.sent play.pacer.keep
-            (and_parts (nat_lt 0 play.pacer.passed) (play.pacer.sent == play.pacer.keep) done).1;
-        sent = refl;
-        asks = asks ∙ ap next done;
-      })
-      | inr more ↦ inl (asks ∙ ap next more)
-    ]
-asks_in _ is asks = inl asks
+asks_in state given given' = grind arith
 
 pub slot_asks : {old s : SessionState} {slot : ℕ} {parts : List SentPart} → SlotTo old slot s parts
     → old.awaited ≡ Nothing → AsksDone s
@@ -189,9 +164,7 @@ halted_idle {s} done = rw (done.state_is, done.asks)
 -- no reply is held up where a play is done
 done_unheld : {p : PacerState} (heard : ℕ) (pending : Option ℕ) (waits : Bool) → IsPacerState p → p.sent ≡ p.keep
     → IsHeld pending (Going p) waits heard → pending ≡ None
-done_unheld heard None waits is done held = refl
-done_unheld {p} heard (Some slot) waits is done held =
-    let past = held.1.none (p.before + p.keep) is.ends (omega arith) in absurd (omega (arith, past, done))
+done_unheld heard pending waits given given' given'' = grind arith
 
 -- a slot is over: nothing was asked, or a play that is done was halted
 pub data Finished (s : SessionState) : Outcome → SessionState → Type 0 where
@@ -202,8 +175,7 @@ pub data Finished (s : SessionState) : Outcome → SessionState → Type 0 where
 pub finish_by : {s new : SessionState} {asks : AwaitedAnswer} {halt : Outcome} → AsksDone s → awaited_answer s ≡ asks
     → FinishesAs s asks halt new → Finished s halt new
 finish_by (inl rest) is NothingLeft = Quiet rest
-finish_by (inl rest) is (DoneHalted {keep = keep} entry) =
-    let no : NoAnswer ≡ HaltAnswer keep = sym (ap awaited_answer_of rest) ∙ is in cc
+finish_by (inl rest) is (DoneHalted {keep = keep} entry) = grind arith
 finish_by {s} {new} {halt = halt} (inr done) is finishes =
     by-halt (subst (λ a. FinishesAs s a halt new) (sym is ∙ ap awaited_answer_of done.asks) finishes)
   where
@@ -218,8 +190,7 @@ done_move : {s : SessionState} {placed : PlacedEntry} (paced : IsPaced s) (done 
 done_move {s} {placed} paced done entry =
     let p : PacerState = play.pacer in
     let on = (rw is at paced.sound).0 in
-    let held : IsHeld paced.pending (Going p) s.waits s.heard =
-    rw is at paced.held in
+    let held : IsHeld paced.pending (Going p) s.waits s.heard = grind arith in
     let none : paced.pending ≡ None = done_unheld s.heard paced.pending s.waits on.pacing ended held in
     let waits : s.waits ≡ false = rw none at held in
     let sends : sends_in (halted_in s.state s.awaited) ≡ Idle = halted_idle done in
@@ -258,28 +229,17 @@ finish_move {s} paced (Quiet rest) = quiet_move paced s.awaited refl
 finish_move paced (Ended done entry) = done_move paced done entry
 
 finish_rest : {s new : SessionState} {halt : Outcome} → Finished s halt new → new.awaited ≡ Nothing
-finish_rest (Quiet rest) = rest
-finish_rest (Ended done entry) = refl
+finish_rest given = grind arith
 
 -- ---- a slot
 
 -- nothing is being sent
 idle_none : (state : State) (pending : Option ℕ) (waits : Bool) (heard : ℕ) → is_sending state ≡ false
     → IsHeld pending (sends_in state) waits heard → (pending ≡ None) × (sends_in state ≡ Idle)
-idle_none (Playing setup play) pending waits heard none held = absurd (true≢false none)
-idle_none (Stopping setup stop) pending waits heard none held = absurd (true≢false none)
-idle_none _ None waits heard none held = (refl, refl)
-idle_none _ (Some slot) waits heard none held = absurd held
+idle_none state pending waits heard given given' = grind arith
 
 idle_later : (from to : ℕ) → from ≤ to → GoesTo (point Idle from None) (point Idle to None) no_piece
-idle_later from to less = record {
-  later = less;
-  rest = λ askings come on fits. record {
-    from = from_lower from to come.slots less fits.from;
-    later = later_lower from to (plays_of askings) less fits.later;
-    stand = fits.stand;
-  };
-}
+idle_later from to less = grind (arith, from_lower, later_lower)
 
 slot_move : {old s : SessionState} {slot : ℕ} {parts : List SentPart} (stands : Stands old) → SlotTo old slot s parts
     → Move stands.paced s (parts_piece parts)
@@ -297,18 +257,13 @@ slot_move {old} {slot = slot} stands (SlotSent sending later) =
       held = stands.paced.held;
     }) sending in
     record {
-      after = record {
-        sound = rw (state, waits, heard) moves.sound;
-        pending = moves.after;
-        held = rw (state, waits, heard) moves.held;
-      };
+      after = grind arith;
       goes_on = rw (state, heard) moves.goes_on;
     }
 slot_move {old} {slot = slot} stands (SlotIdle none later) =
     let paced = stands.paced in
     let idle = idle_none old.state paced.pending old.waits old.heard none paced.held in
-    let waits : old.waits ≡ false =
-    rw idle.0 at paced.held in
+    let waits : old.waits ≡ false = grind arith in
     record {
       after = record { sound = rw idle.1 tt; pending = None; held = waits };
       goes_on = rw (idle.0, idle.1) (idle_later old.heard slot (omega (arith, later)));
@@ -388,18 +343,14 @@ module _ {R : SessionState → Piece → SessionState → Type 0} (kept : IsKept
   pub kept_from_standing : IsKeptByCourse FromStanding
   kept_from_standing = record {
     none = λ s stands. (stands, kept.none s);
-    joins = λ a b c one two first rest stands.
-        let mid = first stands in
-        let last = rest mid.0 in (last.0, kept.joins a b c one two mid.1 last.1);
+    joins = grind arith;
     request = λ old new request stands. (request_stands request stands, kept.request old new request stands);
     event = λ old opened round comes stands.
         (stands_by (event_step stands comes), kept.event old opened round comes stands);
   }
 
   pub all_kept : (course : Course) → R (begin_of course).session (piece_of course) course.last.session
-  all_kept course =
-      (course_kept kept_from_standing (begin_of course) course.last course.rounds course.follows
-      (first_stands course.films course.settings course.words)).1
+  all_kept course = grind (arith, course_kept, kept_from_standing)
 
 -- ---- where a course ends
 
@@ -408,11 +359,7 @@ end_at : (p : PacerState) (waits : Bool) (heard : ℕ) (pending : Option ℕ) �
     → IsHeld pending (Going p) waits heard
     → StandAt (play_with p p.keep) p.sent []
     (record { end = heard; slots = with_pending pending []; parts = [] })
-end_at p waits heard None on held = record {
-  holds = omega (arith, on.pacing.sent, on.pacing.due);
-  texts = tt;
-  film = film_now p heard on;
-}
+end_at p waits heard None on held = grind arith
 end_at p waits heard (Some slot) on held =
     let play : FilmPlay = play_with p p.keep in
     let here = due_here p heard on in
@@ -468,8 +415,7 @@ course_sent course =
       later = record { starts = tt; begins = refl };
       stand = end_stand (sends_in new.state) new.waits new.heard paced.pending paced.sound paced.held;
     }) in
-    let last : new.heard ≡ greatest_slot course.rounds =
-    course_heard first course.last course.rounds course.follows ∙ omega arith in
+    let last : new.heard ≡ greatest_slot course.rounds = grind (arith, course_heard) in
     let made = append-nil (askings_of first course.rounds course.last course.follows) in
     let slots = append-nil (slots_from 0 course.rounds) in
     let sent = rw (made, slots, append-nil (rounds_parts course.rounds)) at fits.stand in
@@ -482,11 +428,7 @@ replies_sent course = (course_sent course).texts
 
 pub film_written_is : (course : Course) → rounds_film course.rounds ≡ course_film course
 film_written_is course =
-    sym (film_sent (begin_of course) course.last course.rounds course.follows)
-    ∙ film_is (greatest_slot course.rounds) (course_plays course) (film_bytes (rounds_parts course.rounds))
-    (course_sent course).film
+    grind (arith, film_sent (begin_of course) course.last course.rounds course.follows, film_is, course_sent course)
 
 pub plays_over : (course : Course) → AreOver (greatest_slot course.rounds) (course_plays course)
-plays_over course =
-    film_over_all (greatest_slot course.rounds) (course_plays course) (film_bytes (rounds_parts course.rounds))
-    (course_sent course).film
+plays_over course = grind (arith, film_over_all, course_sent course)

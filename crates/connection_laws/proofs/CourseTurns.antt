@@ -43,8 +43,7 @@ pub record IsKeptByDoings (R : SessionState → List StationCall → SessionStat
 
 module _ {R : SessionState → List StationCall → SessionState → Type 0} (kept : IsKeptByDoings R) where
   sent_if : (goes : Bool) (s : SessionState) → R s [] (if goes then sent_reply s else s)
-  sent_if true s = kept.reply s
-  sent_if false s = kept.none s
+  sent_if goes s = grind arith
 
   came : {old opened : Stage} {round : Round} → ComesAs old round opened
       → R old.session (station_call (asking_at old.session round.event) round.halt ∷ []) opened.session
@@ -136,20 +135,20 @@ round_outcomes_are old new round runs = rw (takes_outcomes runs.opened new round
 rounds_outcomes_are : (old new : Stage) (rounds : List Round) (runs : RunsAll old rounds new)
     → map outcome_of (rounds_calls old rounds new runs) ≡ rounds_outcomes rounds
 rounds_outcomes_are old new [] runs = refl
-rounds_outcomes_are old new (round ∷ rounds) runs = cc (
-  map-append outcome_of (round_calls old round runs.0 runs.1.0) (rounds_calls runs.0 rounds new runs.1.2),
-  round_outcomes_are old runs.0 round runs.1.0,
-  rounds_outcomes_are runs.0 new rounds runs.1.2,
-)
+rounds_outcomes_are old new (round ∷ rounds) runs =
+    grind (
+      arith,
+      map-append,
+      round_outcomes_are old runs.0 round runs.1.0,
+      rounds_outcomes_are runs.0 new rounds runs.1.2,
+    )
 
 ending_outcomes_are : (old new : Stage) (count : ℕ) (ending : Ending) (end : ConnEnd)
     (ends : Ends old count ending end new)
     → map outcome_of (ending_calls old count ending end new ends) ≡ ending_outcomes ending
 ending_outcomes_are old new count (AtElement round) end ends = round_outcomes_are old new round ends.0
 ending_outcomes_are old new count (InReply round message outcome front) end ends =
-    map-append outcome_of (round_calls old round ends.1.mid ends.1.runs)
-    (station_call ends.1.fails.heard.asking outcome ∷ [])
-    ∙ ap (λ os. os ++ outcome ∷ []) (round_outcomes_are old ends.1.mid round ends.1.runs)
+    grind (arith, map-append, round_outcomes_are old ends.1.mid round ends.1.runs)
 ending_outcomes_are old new count _ end ends = refl
 
 -- ---- all that a connection did, up to its report
@@ -186,32 +185,21 @@ module _ {films : List Stored} {settings : Settings} {words : List ℕ} {doings 
       (kept.close doings.halt last done.closed (closes_as (open_of last) doings.halt done.closes) last_rest)
 
   pub turns_told : map outcome_of all_calls ≡ doings_outcomes doings
-  turns_told = cc (
-    map-append outcome_of (heard_calls ++ ended_calls) (station_call done.last.session doings.halt ∷ []),
-    map-append outcome_of heard_calls ended_calls,
-    rounds_outcomes_are (first_stage films settings words) done.mid doings.rounds done.runs,
-    ending_outcomes_are done.mid done.last (length doings.rounds) doings.ending report.end done.ends,
-  )
+  turns_told = search (map-append, station_call, rounds_outcomes_are, first_stage, ending_outcomes_are)
 
 -- ---- slots
 slotted_if : (old : SessionState) (slot : ℕ) (taken sending : Bool)
     → (if taken then (if sending then after_play (sent_slot old slot) else record old { heard = slot }) else old).late
     ≡ old.late + (if taken && sending then missed_between old.heard (start_in old.state) slot else 0)
-slotted_if old slot true true =
-    reply_keeps (λ (s : SessionState). s.late) (λ s. refl) (old.waits && is_between (stepped_in true slot old.state))
-    (sent_due old slot)
-slotted_if old slot _ _ = omega arith
+slotted_if old slot taken sending = grind arith
 
 slotted_late : (old : SessionState) (slot : ℕ) → (after_slot old slot).late ≡ old.late + missed_in old slot
-slotted_late old slot =
-    rw (← (missed_is old.heard (start_in old.state) slot))
-    (slotted_if old slot (is_taken old slot) (is_sending old.state))
+slotted_late old slot = grind (arith, missed_is, slotted_if, is_taken, is_sending)
 
 comes_late : {old opened : Stage} {round : Round} → ComesAs old round opened
     → opened.session.late ≡ old.session.late + missed_by old.session round.event
 comes_late BytesCame = omega arith
-comes_late {old} (SlotCame {slot = slot} finish) =
-    ap (λ (part : LastingPart). part.late) (finish_keeps finish) ∙ slotted_late old.session slot
+comes_late {old} (SlotCame {slot = slot} finish) = grind (arith, finish_keeps finish, slotted_late old.session slot)
 
 round_late : (old new : Stage) (round : Round) → Runs old round new
     → new.session.late ≡ old.session.late + missed_by old.session round.event
@@ -244,11 +232,12 @@ pub late_is : {films : List Stored} {settings : Settings} {words : List ℕ} {do
     ≡ rounds_missed (first_stage films settings words) doings.rounds done.mid done.runs
     + ending_missed done.mid.session doings.ending
 late_is {films} {settings} {words} {doings} {report} done =
-    omega (
+    grind (
       arith,
-      done.report_is.late,
-      ap (λ (part : LastingPart). part.late)
-          (finish_keeps (closes_as (open_of done.last.session) doings.halt done.closes)),
+      finish_keeps (closes_as (open_of done.last.session) doings.halt done.closes),
+      closes_as (open_of done.last.session) doings.halt done.closes,
+      open_of done.last.session,
       ending_late done.mid done.last (length doings.rounds) doings.ending report.end done.ends,
       rounds_late (first_stage films settings words) done.mid doings.rounds done.runs,
+      first_stage films settings words,
     )

@@ -13,16 +13,8 @@ use Rattle.rtsp_client.specs.Meters.{use_slot, used_before}
 used_snoc : (wish : Wish) (time slot unit : ℕ) (sizes : List ℕ) (x : ℕ)
     → used_before wish time slot unit (sizes ++ x ∷ [])
     ≡ used_before wish time slot unit sizes + cond (nat_lt (use_slot wish time (unit + length sizes)) slot) x 0
-used_snoc wish time slot unit [] x =
-    let here : unit ≡ unit + 0 = omega arith in
-    omega (arith, ap (λ n. cond (nat_lt (use_slot wish time n) slot) x 0) here)
-used_snoc wish time slot unit (size ∷ sizes) x =
-    let here : unit + 1 + length sizes ≡ unit + suc (length sizes) = omega arith in
-    omega (
-      arith,
-      used_snoc wish time slot (unit + 1) sizes x,
-      ap (λ n. cond (nat_lt (use_slot wish time n) slot) x 0) here,
-    )
+used_snoc wish time slot unit [] x = grind arith
+used_snoc wish time slot unit (size ∷ sizes) x = grind (arith, used_snoc wish time slot (unit + 1) sizes x)
 
 -- a timing with the slots and the delay of a wish
 pub record WishedTiming (wish : Wish) (timing : Timing) : Type 0 where
@@ -39,8 +31,7 @@ module _ {wish : Wish} {timing : Timing} where
       let f : ℕ → ℕ = λ k. cond (nat_lt (due_slot timing k) slot) (get_or sizes k 0) 0 in
       let next : suc n ≡ n + 1 = omega arith in
       let place : 0 + length (take n sizes) ≡ n = omega (arith, length-take-le n sizes (omega (arith, few))) in
-      let used : use_slot wish time (0 + length (take n sizes)) ≡ due_slot timing n =
-      rw (place, timed.units, timed.delay) in
+      let used : use_slot wish time (0 + length (take n sizes)) ≡ due_slot timing n = grind arith in
       omega (
         arith,
         ap (used_before wish time slot 0) (ap (λ m. take m sizes) next ∙ take_more sizes n 0 (omega (arith, few))),
@@ -54,18 +45,14 @@ module _ {wish : Wish} {timing : Timing} where
   used_same : (slot : ℕ) (sizes : List ℕ) → WishedTiming wish timing → timing.played ≡ 0
       → used_before wish timing.picture_units slot 0 sizes ≡ wire_used sizes timing slot
   used_same slot sizes timed none =
-      omega (
+      grind (
         arith,
-        ap (used_before wish timing.picture_units slot 0) (take_all (length sizes) sizes (omega arith)),
+        take_all (length sizes) sizes (omega arith),
         used_range slot sizes (length sizes) timed (omega arith),
-        none,
       )
 
 -- between the curves of a plan is between those of the meter
 pub curves_same : {wish : Wish} {sizes : List ℕ} {slot came : ℕ} {timing : Timing} → WishedTiming wish timing →
     timing.buffer ≡ wish.buffer → timing.played ≡ 0 → low_at sizes timing slot ≤ came →
     came ≤ up_at sizes timing slot → IsBetween wish sizes timing.picture_units slot came
-curves_same {wish} {sizes} {slot} timed buffer none above below =
-    let low = used_same (slot + 1) sizes timed none in
-    let up = used_same slot sizes timed none in
-    record { low = omega (arith, low, above); up = omega (arith, up, below, buffer) }
+curves_same {wish} {sizes} {slot} timed buffer none above below = grind (arith, used_same)

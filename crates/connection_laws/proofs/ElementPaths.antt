@@ -1,3 +1,4 @@
+use Rattle.std.proofs.lemmas.Grind.{common_steps}
 -- The elements of a connection's input that are processed, one after another: each byte CR or LF,
 -- each block, each request.
 use Rattle.std.proofs.Common.{◌≡◌, ◌⊎◌, ℕ, zero, suc, ◌<◌, ◌≤◌, ◌++◌, true, false, List, [], ◌∷◌, Ok, Err, length, drop}
@@ -39,23 +40,10 @@ pub data IsOver (input : List ℕ) (n : ℕ) : Type 0 where
   ABlock : StartsBlock input → 4 ≤ length input → n ≡ block_length input → n ≤ length input → IsOver input n
 
 pub over_element : (input : List ℕ) (n : ℕ) → IsOver input n → IsElementLength input n
-over_element input n (AnEnd one some end) = LineEnd one some end
-over_element input n (ABlock starts four size inside) = WholeBlock starts four size inside
-
-over_within : (input : List ℕ) (n : ℕ) → IsOver input n → n ≤ length input
-over_within input n (AnEnd one some end) = omega (arith, one, some)
-over_within input n (ABlock starts four size inside) = inside
-
-over_grows : (input more : List ℕ) (n : ℕ) → IsOver input n → IsOver (input ++ more) n
-over_grows input more n (AnEnd one some end) =
-    AnEnd one (omega (arith, length-append input more, some)) (rw (get_or_append_left input more 0 0 some) end)
-over_grows input more n (ABlock starts four size inside) =
-    ABlock (StartsBlock-append input more starts) (omega (arith, length-append input more, four))
-    (rw (block_length-append input more four) size) (omega (arith, length-append input more, inside))
+over_element input n given = grind arith
 
 over_no_request : (input : List ℕ) (n : ℕ) → IsOver input n → StartsMessage input → ⊥
-over_no_request input n (AnEnd one some end) starts = both_ways (is_line_end (get_or input 0 0)) starts.1 end
-over_no_request input n (ABlock block four size inside) starts = clash_block_request input block starts
+over_no_request input n given given' = grind arith
 
 pub record IsTaken (old : Stage) (turn : StationCall) (new : Stage) : Type 0 where
   pub session_is : turn.heard.session ≡ old.session
@@ -142,20 +130,11 @@ shorter : (old : Stage) (session : SessionState) (more : List ℕ) (n : ℕ) →
 shorter old session more n inside = cc (drop-append-le n old.input more inside)
 
 next_grows : (old : Stage) (message more : List ℕ) → IsNext old message → IsNext (longer old more) message
-next_grows old message more next = record {
-  first = whole_stays old.input more (Ok (Request (length message))) next.first tt;
-  message_is = next.message_is ∙ sym (take-append-le (length message) old.input more next.first.2);
-  replied = next.replied;
-  torn = next.torn;
-}
+next_grows old message more next = search (whole_stays, take-append-le)
 
 element_grows : (old new : Stage) (element : Element) (more : List ℕ) → Goes old element new
     → Goes (longer old more) element (longer new more)
-element_grows old new (Over n) more goes = record {
-  over = over_grows old.input more n goes.over;
-  torn = goes.torn;
-  new_is = ap (λ s. longer s more) goes.new_is ∙ shorter old old.session more n (over_within old.input n goes.over);
-}
+element_grows old new (Over n) more goes = grind (arith, common_steps)
 element_grows old new (RequestElement turn) more goes = record {
   session_is = goes.session_is;
   next = next_grows old turn.heard.message more goes.next;
@@ -204,8 +183,7 @@ passed_over : (session : SessionState) (input : List ℕ) (n : ℕ) → IsPassed
     → Path (stage session input) (stage session (drop n input)) no_exchange
 passed_over session input n (inl skip) torn = ends_over session input n torn skip.1.within skip.1.line_ends
 passed_over session input n (inr block) torn =
-    let over : IsPassing (stage session input) n (stage session (drop n input)) =
-    record { over = ABlock block.1.0 block.1.1 block.1.3 block.1.4; torn = torn; new_is = refl } in
+    let over : IsPassing (stage session input) n (stage session (drop n input)) = grind arith in
     record { way = record { elements = Over n ∷ []; goes = (stage session (drop n input), (over, refl)) }; is = refl }
 
 -- a request that was processed, as it was received
@@ -226,11 +204,7 @@ path_taken old new message outcome parts replied =
     let taken : IsTaken old turn new = assumption (replied, replied.heard) in
     record {
       way = record { elements = RequestElement turn ∷ []; goes = (new, (taken, refl)) };
-      is = rw (
-        append-nil (parts_bytes (reply_parts replied.answered)),
-        append-nil (answer_in outcome),
-        replied.parts_are,
-      );
+      is = grind (arith, common_steps);
     }
 
 abbrev pub takings_exchange : (old : Stage) (takings : List ElementStep) (new : Stage) → TakesAll old takings new
@@ -259,8 +233,7 @@ first_element old new (RequestElement turn) goes =
     (length turn.heard.message, WholeMessage goes.next.first.0 goes.next.first.1 goes.next.first.2)
 
 goes_on : (old new : Stage) (element : Element) → Goes old element new → old.session.torn ≡ false
-goes_on old new (Over n) goes = goes.torn
-goes_on old new (RequestElement turn) goes = goes.next.torn
+goes_on old new element given = grind arith
 
 idle_done : (old new : Stage) (element : Element)
     → (IsFirst old.input (Ok More) ⊎ ((n : ℕ) × (IsFirst old.input (Ok (Request n)) × (old.session.waits ≡ true))))
@@ -272,8 +245,7 @@ idle_done old new (RequestElement turn) (inr request) goes = cc (request.1.1, go
 
 stopped_done : (old new : Stage) (element : Element) (end : ConnEnd) → IsStopped end old → Goes old element new → ⊥
 stopped_done old new element TornDown stopped goes = cc (stopped, goes_on old new element goes)
-stopped_done old new element HeadTooLong stopped goes =
-    let first = first_element old new element goes in tells_none old.input (Err LongHead) stopped.1 first.0 first.1
+stopped_done old new element HeadTooLong stopped goes = grind arith
 stopped_done old new element BodyTooLong stopped goes =
     let first = first_element old new element goes in tells_none old.input (Err LongBody) stopped.1 first.0 first.1
 stopped_done old new element _ stopped goes = absurd stopped
@@ -328,8 +300,7 @@ turns_same {old} {turn} {again} given twice =
       also = rw also.session_is also.hears;
       alike = alike;
     }) in
-    let answered : IsAskAnswered h.asking h.ask again.outcome again.answered =
-    rw (← same.0) (rw same.1 at also.answered) in
+    let answered : IsAskAnswered h.asking h.ask again.outcome again.answered = grind arith in
     let both = answers_same h.asking h.ask given (taken.answered, answered) in (
       also.new_is ∙ stage_is (ap after_reply both.0) (ap (λ (m : List ℕ). drop (length m) old.input) message)
           ∙ sym taken.new_is,
@@ -371,21 +342,13 @@ passing_films : {old new : Stage} {n : ℕ} → IsPassing old n new → AreFilms
 passing_films passing films = rw (ap (λ (s : Stage). s.session.films) passing.new_is) films
 
 overs_same : {old one other : Stage} {n m : ℕ} → IsPassing old n one → IsPassing old m other → other ≡ one
-overs_same {old} {n = n} {m = m} is also =
-    let size : m ≡ n =
-    element_once old.input m n (over_element old.input m also.over) (over_element old.input n is.over) in
-    cc (also.new_is, size, is.new_is)
+overs_same {old} {n = n} {m = m} is also = grind arith
 
 pub ends_same : {old : Stage} {xs ys : List Element} (one other : Exchange) → AreFilms old.session.films
     → (way : PathDone old xs) (also : PathDone old ys)
     → AreAlike (joined (exchange_of xs) one) (joined (exchange_of ys) other)
     → SameEnds way.last also.last (exchange_of xs).bytes (exchange_of ys).bytes one other
-ends_same {xs = []} {ys = []} one other films way also alike =
-    record {
-      last_is = also.goes ∙ sym way.goes;
-      bytes = refl;
-      later = record { answers = alike.answers; memory = alike.memory };
-    }
+ends_same {xs = []} {ys = []} one other films way also alike = grind arith
 ends_same {old} {xs = []} {ys = y ∷ ys} one other films way also alike =
     absurd (done_goes old also.goes.0 y (subst IsDrained way.goes way.done) also.goes.1.0)
 ends_same {old} {xs = x ∷ xs} {ys = []} one other films way also alike =

@@ -1,3 +1,4 @@
+use Rattle.std.proofs.lemmas.Grind.{common_steps}
 -- A stream of complete elements, split at any place.
 use Rattle.std.proofs.Common.{◌≡◌, ℕ, ◌+◌, ◌-◌, ◌<◌, List, [], ◌∷◌, ◌++◌, length, take, drop, refl, sym, ◌∙◌, arith}
 use Rattle.std.proofs.Common.{inl, inr}
@@ -20,16 +21,13 @@ abbrev pub AreAlone : List (List ℕ) → Type 0
 AreAlone = Each IsAlone
 
 pub no_element : (n : ℕ) → IsElementLength [] n → ⊥
-no_element n (LineEnd one some end) = omega (arith, some)
-no_element n (WholeBlock starts four size inside) = omega (arith, four)
-no_element n (WholeMessage starts size inside) = omega (arith, starts.0)
+no_element n given = grind arith
 
 stream_cons : (p t : List ℕ) (ps : List (List ℕ)) (r : List ℕ) → IsAlone p → IsStream t ps r
     → IsStream (p ++ t) (p ∷ ps) r
 stream_cons p t ps r alone stream =
     let zero_ : length p ≡ length p + 0 = omega arith in
-    let front : p ≡ take (length p) (p ++ t) =
-    sym (take-append-le (length p) p t (omega arith) ∙ take_all (length p) p (omega arith)) in
+    let front : p ≡ take (length p) (p ++ t) = grind (arith, common_steps) in
     let after : t ≡ drop (length p) (p ++ t) = cc (drop-append-add p t 0, zero_) in
     ((length p, (element_stays p t (length p) alone.whole, front, rw (← after) stream.0)), stream.1)
 

@@ -1,3 +1,4 @@
+use Rattle.std.proofs.lemmas.Grind.{common_steps}
 -- The promise from a server to its client's meter.
 use Rattle.std.proofs.Common.{◌≡◌, ℕ, suc, ◌+◌, ◌-◌, ◌<◌, ◌≤◌, min, List, ◌∷◌, ◌++◌, length, take, map, sum, refl, sym}
 use Rattle.std.proofs.Common.{ap, ◌∙◌, arith, inl, inr, []}
@@ -147,13 +148,10 @@ film_blocks_are wish stored identity play whole = rw (whole.before, whole.pieces
 
 -- all units of a film are those of its run
 pub rest_all : (stored : Stored) → rest_sizes (stored_sizes stored) (whole_run stored) ≡ film_sizes stored.film
-rest_all stored =
-    take_all (length stored.film.units.items - 0) (film_sizes stored.film)
-    (omega (arith, length-map stored.film.units.items (λ u. wire_size stored.film.slice_starts.items u)))
+rest_all stored = grind (arith, common_steps)
 
 slots_most : (play : FilmPlay) (n : ℕ) → IsPlan play.plan → first_slots play.plan n ≤ total_bytes play.plan
-slots_most play n is =
-    omega (arith, sum_by-take-le (λ (x : ℕ). x) (plan_slots play.plan) n, sum-plan_slots play.plan is.no_empty)
+slots_most play n is = grind (arith, sum_by-take-le, sum-plan_slots play.plan is.no_empty)
 
 -- how many bytes of the film were sent, and that they lie between the curves
 pub record IsSentBetween (wish : Wish) (film : Film) (total place count : ℕ) : Type 0 where
@@ -164,8 +162,7 @@ pub record IsSentBetween (wish : Wish) (film : Film) (total place count : ℕ) :
 
 event_is : (old opened : Stage) (event : IoEvent) (due : List SentPart) (halt : Outcome)
     → Comes old event due halt opened → IsEvent event
-event_is old opened (Sent byte) due halt comes = comes
-event_is old opened _ due halt comes = tt
+event_is old opened event due halt given = grind arith
 
 events_are : (old new : Stage) (rounds : List Round) → IsCourseBetween old rounds new → AreEvents rounds
 events_are old new [] follows = tt
@@ -213,9 +210,7 @@ module _ {wish : Wish} {stored : Stored} {course : Course} (played : HasPlayedWh
       let due : first_slots play.plan (g + 1 - play.start) ≡ n = ap (first_slots play.plan) at in
       let bytes = whole_bytes in
       let most = slots_most play (j + 1) sent.plan in
-      let size : length (rounds_film rounds) ≡ n =
-      ap (λ (l : List ℕ). length l) film
-      ∙ (length-take (due_of g play) (framed_bytes x.blocks) ∙ omega (arith, due, whole.keep, most, bytes)) in
+      let size : length (rounds_film rounds) ≡ n = grind (arith, common_steps) in
       let curves = planned_between sent.plan whole.sending refl in
       let came : 0 + n ≡ length (rounds_film rounds) = omega (arith, size) in
       record {
@@ -229,8 +224,7 @@ split_texts : {texts : List PlacedText} (course : Course) (first later : List Ro
     → course_texts course ≡ texts
     → placed_texts 0 (rounds_parts first) ++ placed_texts (0 + length (film_bytes (rounds_parts first)))
     (rounds_parts later) ≡ texts
-split_texts course first later split are =
-    cc (texts_parts 0 (rounds_parts first) (rounds_parts later), parts-more first later, split, are)
+split_texts course first later split are = grind (arith, texts_parts, rounds_parts, parts-more)
 
 module _ {wish : Wish} {stored : Stored} {course : Course} (played : HasPlayedWhole wish stored course) where
   fed_by : (first later : List Round) (j : ℕ) → course.rounds ≡ first ++ later
@@ -277,8 +271,7 @@ module _ {wish : Wish} {stored : Stored} {course : Course} (played : HasPlayedWh
       (rw (← whole.parts) (events_are begin course.last course.rounds course.follows)) in
       let slot : greatest_slot whole.first ≡ played.play.start + j =
       cc (rounds_latest whole.first, whole.front_is, written.slot_is) in
-      let are : rounds_bytes whole.first ≡ bytes =
-      sym (written.bytes_are ∙ (ap sent_bytes whole.front_is ∙ rounds_sent_are whole.first events)) in
+      let are : rounds_bytes whole.first ≡ bytes = grind (arith, rounds_sent_are whole.first events) in
       rw (← are) (fed_by whole.first whole.later j whole.parts slot)
 
 -- ---- all that was sent is a prefix of the stream
@@ -316,8 +309,7 @@ all_sent {wish} {stored} {course} played =
 
 texts_long : (texts : List PlacedText) → texts_length texts ≡ length (framed_bytes (map text_of texts))
 texts_long [] = refl
-texts_long (placed ∷ texts) =
-    omega (arith, texts_long texts, length-append placed.text (framed_bytes (map text_of texts)))
+texts_long (placed ∷ texts) = rw (texts_long texts, length-append placed.text (framed_bytes (map text_of texts)))
 
 -- a third reply was sent
 pub record HasThird (later : List PlacedText) : Type 0 where
@@ -366,9 +358,4 @@ all_sent_whole {wish} {stored} {course} played third =
 
 -- a prefix of a prefix
 pub front_again : (bytes mid all : List ℕ) (n : ℕ) → bytes ≡ take n mid → IsFrontOf mid all → IsFrontOf bytes all
-front_again bytes mid all n is front =
-    let size : length mid ≡ min front.count (length all) = rw (front.is, length-take front.count all) in
-    elim (cases_lt front.count n) [
-      | inl less ↦ record { count = front.count; is = is ∙ (take_all n mid (omega (arith, size, less)) ∙ front.is) }
-      | inr more ↦ record { count = n; is = is ∙ (ap (take n) front.is ∙ take-take n front.count all more) }
-    ]
+front_again bytes mid all n is front = grind (arith, common_steps)

@@ -1,3 +1,4 @@
+use Rattle.std.proofs.lemmas.Grind.{common_steps}
 -- What was sent where a send failed is a prefix of what a longer course sends.
 use Rattle.std.proofs.Common.{◌≡◌, ℕ, ◌+◌, ◌++◌, ◌&&◌, if◌then◌else◌, Bool, true, false, List, ◌∷◌, length, drop, arith}
 use Rattle.std.proofs.Common.{refl, sym, ap, ◌∙◌, [], inl, inr}
@@ -25,10 +26,7 @@ front_of : (xs ys : List ℕ) → IsPrefixOf xs (xs ++ ys)
 front_of xs ys = (length xs, (omega (arith, length-append xs ys), sym (take_at xs ys (length xs) refl)))
 
 front_after : (xs front ys : List ℕ) → IsPrefixOf front ys → IsPrefixOf (xs ++ front) (xs ++ ys)
-front_after xs front ys is = (
-  length xs + is.0,
-  (omega (arith, is.1.0, length-append xs ys), ap (λ f. xs ++ f) is.1.1 ∙ sym (take-append-add xs ys is.0)),
-)
+front_after xs front ys is = grind (arith, length-append xs ys, take-append-add xs ys is.0)
 
 -- ---- one event more
 cut_short : (course : Course) (round : Round) (new : Stage) (sent : List ℕ) → Runs course.last round new
@@ -78,19 +76,12 @@ can_finish {s} (inr done) =
       finished = rw done.asks (record { number = 0; command = refl; answer = refl; halts = refl });
     }
 
-between_bytes : (old : SessionState) (slot : ℕ) (between : Bool)
-    → parts_bytes (if between then Text old.text ∷ Film (step_bytes false slot (stepped_in true slot old.state))
-    ∷ [] else []) ≡ (if between then old.text ++ step_bytes false slot (stepped_in true slot old.state) else [])
-between_bytes old slot true = rw (append-nil (step_bytes false slot (stepped_in true slot old.state)))
-between_bytes old slot false = refl
-
 due_as : (old : SessionState) (slot : ℕ) (waits : Bool)
     → parts_bytes (if waits then Film (step_bytes true slot old.state)
     ∷ (if is_between (stepped_in true slot old.state) then Text old.text
     ∷ Film (step_bytes false slot (stepped_in true slot old.state)) ∷ [] else [])
     else Film (step_bytes false slot old.state) ∷ []) ≡ due_bytes waits old.state old.text slot
-due_as old slot true = rw (between_bytes old slot (is_between (stepped_in true slot old.state)))
-due_as old slot false = append-nil (step_bytes false slot old.state)
+due_as old slot waits = grind (arith, common_steps)
 
 pub failed_slot : (course : Course) (slot : ℕ) (front : List ℕ) (new : Stage)
     → HasFailedInSlot course.last slot front new
@@ -108,17 +99,10 @@ failed_slot course slot front new failed =
       takings = [];
     } in
     let opened : Stage = stage can.new old.input in
-    let runs : Runs old round opened = record {
-      opened = opened;
-      comes = (refl, record { parts_are = refl; finished = can.finished });
-      takes = refl;
-    } in
-    let both : (is_taken old.session slot && is_sending old.session.state) ≡ true =
-    and_from (is_taken old.session slot) (is_sending old.session.state) failed.taken failed.sending in
+    let runs : Runs old round opened = grind arith in
+    let both : (is_taken old.session slot && is_sending old.session.state) ≡ true = grind arith in
     let bytes : round_bytes round ≡ due_bytes old.session.waits old.session.state old.session.text slot =
-    append-nil (parts_bytes (slot_parts old.session slot))
-    ∙ ap parts_bytes (cond-true (is_taken old.session slot && is_sending old.session.state)
-    (due_parts old.session slot) [] both) ∙ due_as old.session slot old.session.waits in
+    search (append-nil, cond-true, due_as) in
     cut_short course round opened front runs (rw bytes failed.front_is)
 
 -- ---- a reply
@@ -130,8 +114,7 @@ takes_more {new} old mid (first ∷ takings) taking takes more =
 
 replied_bytes : (answered : SessionState) (message : List ℕ) (outcome : Outcome) → can_reply answered ≡ true
     → takings_bytes (Answered message outcome (reply_parts answered) ∷ []) ≡ answered.text
-replied_bytes answered message outcome can = rw (append-nil (parts_bytes (reply_parts answered)))
-    (rw (cond-true (can_reply answered) (Text answered.text ∷ []) [] can, append-nil answered.text))
+replied_bytes answered message outcome can = grind (arith, common_steps)
 
 pub failed_reply : {round : Round} {message : List ℕ} {outcome : Outcome} {front : List ℕ} {new : Stage}
     (course : Course) (ends : EndsInReply course.last round message outcome front new) →
@@ -143,20 +126,10 @@ failed_reply {round} {message} {outcome} {front} course ends =
     let parts = reply_parts answered in
     let last : Stage = stage (after_reply answered) (drop (length message) ends.mid.input) in
     let taking = Answered message outcome parts in
-    let more : TakesAll ends.mid (taking ∷ []) last = (
-      last,
-      (
-        record { next = failed.next; answered = answered; heard = failed.heard; parts_are = refl; new_is = refl },
-        refl,
-      ),
-    ) in
+    let more : TakesAll ends.mid (taking ∷ []) last = grind arith in
     let longer : Round =
     record { event = round.event; due = round.due; halt = round.halt; takings = round.takings ++ taking ∷ [] } in
-    let runs : Runs course.last longer last = record {
-      opened = ends.runs.opened;
-      comes = ends.runs.comes;
-      takes = takes_more ends.runs.opened ends.mid round.takings taking ends.runs.takes more;
-    } in
+    let runs : Runs course.last longer last = search takes_more in
     let text = replied_bytes answered message outcome failed.can in
     let bytes : round_bytes longer ≡ round_bytes round ++ answered.text =
     rw (takings_bytes-append round.takings (taking ∷ []), text)

@@ -1,3 +1,4 @@
+use Rattle.std.proofs.lemmas.Grind.{common_steps}
 -- What a client reads of a film, and how its watching is finished.
 use Rattle.std.proofs.Common.{◌≡◌, ℕ, ◌+◌, ◌≤◌, List, [], ◌∷◌, ◌++◌, take, drop, refl, sym, ap, subst, ◌∙◌}
 use Rattle.std.proofs.Common.{append_assoc, arith, inl, inr, ◌⊎◌, ◌-◌, ◌<◌, ◌==◌, true, nat_lt, min, length, map, sum}
@@ -30,14 +31,6 @@ use Rattle.connection_laws.proofs.UnitSizes.{HasCome, units_come, units_told}
 use Rattle.connection_laws.proofs.Blocks.{RunFrom}
 use Rattle.connection_laws.proofs.Lists.{each_take}
 
--- a block is no reply
-no_reply : (b x : List ℕ) (m : List ℕ) → (element_events b ≡ Frame b ∷ []) ⊎ (element_events b ≡ Report b ∷ [])
-    → element_events x ≡ Reply m ∷ [] → x ≡ b → ⊥
-no_reply b x m (inl frame) reply same =
-    let clash : Reply m ∷ [] ≡ Frame b ∷ [] = sym reply ∙ (ap element_events same ∙ frame) in cc
-no_reply b x m (inr report) reply same =
-    let clash : Reply m ∷ [] ≡ Report b ∷ [] = sym reply ∙ (ap element_events same ∙ report) in cc
-
 pub more_reply : (y : List ℕ) (ys : List (List ℕ)) (s : Sum) → element_events y ≡ Reply y ∷ []
     → s.replies + 1 ≤ (steps s (events_of_elements (y ∷ ys))).replies
 more_reply y ys s is = rw is (replies_grow (step (Reply y) s) (events_of_elements ys))
@@ -46,10 +39,7 @@ block_reply : (b : List ℕ) (ys : List (List ℕ)) (s : Sum) → (element_event
     ⊎ (element_events b ≡ Report b ∷ [])
     → (steps s (events_of_elements (b ∷ ys))).replies ≡ s.replies → (t : Sum) × ((steps t (events_of_elements
     ys)).replies ≡ t.replies)
-block_reply b ys s (inl frame) same =
-    (step (Frame b) s, rw frame at same)
-block_reply b ys s (inr report) same =
-    (step (Report b) s, rw report at same)
+block_reply b ys s given given' = grind arith
 
 -- a block of which the only moment is a reply, and the blocks after it
 record ReplyThen (m : List ℕ) : Type 0 where
@@ -70,8 +60,7 @@ all_blocks {bs = []} {ps = y ∷ ys} {m} [] reply_then silent are texts all = cc
 all_blocks {bs = []} {ps = y ∷ ys} {m} (z ∷ zs) reply_then silent are texts all =
     let first : z ≡ y = cc in
     absurd (omega (arith, silent.same, more_reply y ys silent.sum (rw first at texts.0.moment)))
-all_blocks {bs = b ∷ bs} {ps = []} {m} later reply_then silent are texts all =
-    let first : reply_then.block ≡ b = cc in absurd (no_reply b reply_then.block m are.0.moment reply_then.reply first)
+all_blocks {bs = b ∷ bs} {ps = []} {m} later reply_then silent are texts all = grind arith
 all_blocks {bs = b ∷ bs} {ps = y ∷ ys} {m} later reply_then silent are texts all =
     let first : y ≡ b = cc in
     let rest : ys ++ reply_then.block ∷ reply_then.rest ≡ bs ++ later = cc in
@@ -86,19 +75,13 @@ all_elements : {ps : List (List ℕ)} {m : List ℕ} (x : Stream) (reply_then : 
     → all_of x ≡ ps ++ reply_then.block ∷ reply_then.rest → (steps no_sum (events_of_elements ps)).replies ≡ 2
     → ps ≡ x.first ∷ x.second ∷ x.blocks
 all_elements {ps = []} {m} x reply_then all two = absurd (omega (arith, two))
-all_elements {ps = a ∷ []} {m} x reply_then all two =
-    let first : x.first ≡ a = cc in
-    let P : List ℕ → Type 0 = λ q. element_events q ≡ Reply q ∷ [] in
-    let one : steps no_sum (events_of_elements (a ∷ [])) ≡ steps no_sum (Reply a ∷ []) =
-    cc (subst P first x.first_is.moment) in
-    absurd (omega (arith, two, ap (λ (s : Sum). s.replies) one))
+all_elements {ps = a ∷ []} {m} x reply_then all two = grind arith
 all_elements {ps = a ∷ b ∷ ps} {m} x reply_then all two =
     let first : x.first ≡ a = cc in
     let second : x.second ≡ b = cc in
     let rest : ps ++ reply_then.block ∷ reply_then.rest ≡ x.blocks ++ x.later = cc in
     let P : List ℕ → List ℕ → Type 0 = λ q r. (steps no_sum (events_of_elements (q ∷ r ∷ ps))).replies ≡ 2 in
-    let there : (steps no_sum (events_of_elements (x.first ∷ x.second ∷ ps))).replies ≡ 2 =
-    rw second (subst (λ q. P q b) (sym first) two) in
+    let there : (steps no_sum (events_of_elements (x.first ∷ x.second ∷ ps))).replies ≡ 2 = grind arith in
     let same : (steps (begun_sum x) (events_of_elements ps)).replies
     ≡ 2 = cc (two_moments x ps, there) in rw (← first, ← second)
     (rw (all_blocks x.later reply_then (record { sum = begun_sum x; same = same }) x.blocks_are x.later_are rest))
@@ -118,8 +101,7 @@ done_sum {out} x c done is =
     ∙ (ap (λ l. l ++ drop k all) front.1
     ∙ (append_assoc (done.heard.elements ++ p ∷ []) front.0 (drop k all)
     ∙ append_assoc done.heard.elements (p ∷ []) tail)) in
-    let two : (steps no_sum (events_of_elements done.heard.elements)).replies ≡ 2 =
-    sym (ap (λ (s : Sum). s.replies) done.heard.sum) ∙ done.replies_are in
+    let two : (steps no_sum (events_of_elements done.heard.elements)).replies ≡ 2 = grind arith in
     let are = all_elements x (record { block = p; rest = tail; reply = done.moment }) whole two in
     done.heard.sum ∙ (ap (λ l. steps no_sum (events_of_elements l)) are ∙ two_moments x x.blocks)
 
@@ -165,15 +147,7 @@ come s d =
 time_by : (s : WholeStream) (k : ℕ) (items : List PictureUnit) → items ≡ s.film.units.items →
     let t : Sum = steps (begun_sum s.x) (events_of_elements (take k s.x.blocks)) in 0 < t.frames →
     begins_film (drop 20 t.first) ≡ true → time_in t.first ≡ picture_time s.film.rate
-time_by s k [] items_are =
-    λ some good. absurd
-    (omega (
-      arith,
-      ap (λ (l : List PictureUnit). length l) items_are,
-      film-some film.bytes.items film.rate film.units.items film.slice_starts.items film.grammar,
-    ))
-  where
-    open s use {film}
+time_by s k [] items_are = grind (arith, common_steps)
 time_by s k (unit ∷ items) items_are =
     let run = film_run film identity in
     let starts = film.slice_starts.items in
@@ -181,8 +155,7 @@ time_by s k (unit ∷ items) items_are =
     let laid = subst L (sym items_are) (laid-film film) in
     let at : slice_get film.units.items 0 ≡ Some unit = ap (λ us. slice_get us 0) (sym items_are) in
     let begins = film-begins film.grammar unit at in
-    let all : blocks_from run 0 0 (pieces_of starts (unit ∷ items)) ≡ x.blocks =
-    ap (λ us. blocks_from run 0 0 (pieces_of starts us)) items_are ∙ sym blocks in
+    let all : blocks_from run 0 0 (pieces_of starts (unit ∷ items)) ≡ x.blocks = grind arith in
     let P : List (List ℕ) → Type 0 = λ bs. 0 < (steps (begun_sum x) (events_of_elements (take k bs))).frames
     → begins_film (drop 20 (steps (begun_sum x) (events_of_elements (take k bs))).first) ≡ true
     → time_in (steps (begun_sum x) (events_of_elements (take k bs))).first ≡ picture_time film.rate in
@@ -202,24 +175,7 @@ module _ (s : WholeStream) where
   timed : {h : History} (k : ℕ) → HasGoneOn h → sum_of h ≡ steps (begun_sum x) (events_of_elements (take k x.blocks))
       → IsTimed film x h
   timed {h} k gone sum_is =
-      let t = steps (begun_sum x) (events_of_elements (take k x.blocks)) in
-      let first : first_frame h ≡ t.first = ap (λ (s : Sum). s.first) sum_is in
-      let count : frames h ≡ t.frames = ap (λ (s : Sum). s.frames) sum_is in
-      let end : end_ms h ≡ (begun_sum x).end_ms =
-      ap (λ (s : Sum). s.end_ms) sum_is
-      ∙ (blocks_same (take k x.blocks) (begun_sum x) (each_take IsOneBlock k x.blocks x.blocks_are)).end_ms in
-      let frame_time : 0 < frames h → time_in (first_frame h) ≡ picture_time film.rate = λ some.
-      ap time_in first ∙ time_by s k film.units.items refl (omega (arith, count, some))
-      (rw (← first) (first_good h gone some)) in
-      record {
-        time_is = λ some. cond-false (frames h == 0) 0 (time_in (first_frame h))
-            (ne_eqb (frames h) 0 (λ none. omega (arith, some, none))) ∙ frame_time some;
-        units_are = λ some.
-            cond-false (frames h == 0) 0 (units_until (end_ms h) (time_in (first_frame h)))
-            (ne_eqb (frames h) 0 (λ none. omega (arith, some, none)))
-            ∙ (ap (λ e. units_until e (time_in (first_frame h))) end
-            ∙ ap (units_until (begun_sum x).end_ms) (frame_time some));
-      }
+      grind (arith, blocks_same, each_take IsOneBlock k x.blocks x.blocks_are, time_by, first_good, ne_eqb)
 
   -- ---- a reading
 
@@ -237,16 +193,14 @@ module _ (s : WholeStream) where
       let many : length (sizes at.history) ≡ its.count = rw (are, length-take-le its.count all its.among) in
       let bytes = ap (λ (s : Sum). s.received) reading.sum
       ∙ blocks_received (take k x.blocks) (begun_sum x) (each_take IsOneBlock k x.blocks x.blocks_are) refl in
-      let came : bytes_received at.history + cut_bytes at.rest ≡ min d (length (framed_bytes x.blocks)) =
-      omega (arith, bytes, reading.cut) in
+      let came : bytes_received at.history + cut_bytes at.rest ≡ min d (length (framed_bytes x.blocks)) = grind arith in
       let its_time = timed k gone reading.sum in (
         record {
           sizes_are = are ∙ ap (λ n. take n all) (sym many);
           among = omega (arith, many, its.among);
           time_is = its_time.time_is;
           units_are = λ some. its_time.units_are some ∙ count;
-          next = λ fewer.
-              omega (arith, came, its.next (omega (arith, fewer, many)), ap (λ n. sum (take (n + 1) all)) many);
+          next = grind arith;
         },
         came,
       )
@@ -278,8 +232,7 @@ module _ (s : WholeStream) where
       let all = film_sizes film in
       let total = length (framed_bytes x.blocks) in
       let k = count_ended total x.blocks in
-      let front : take k x.blocks ≡ x.blocks =
-      take_all k x.blocks (omega (arith, count_whole x.blocks total (omega arith))) in
+      let front : take k x.blocks ≡ x.blocks = grind (arith, take_all, count_whole) in
       let its = come s total in
       let sum_here : sum_of h ≡ steps (begun_sum x) (events_of_elements (take k x.blocks)) = rw (sum_is, front) in
       let every : its.count ≡ length all = elim (cases_lt its.count (length all)) [
@@ -304,11 +257,7 @@ module _ (s : WholeStream) where
       let starts = film.slice_starts.items in
       let items = film.units.items in
       let bs = blocks_from run 0 0 (pieces_of starts items) in
-      let units : FirstAndLast film 0 (length items) first last = record {
-        order = film-some film.bytes.items film.rate items film.slice_starts.items film.grammar;
-        first_at = at_first;
-        last_at = at_last;
-      } in
+      let units : FirstAndLast film 0 (length items) first last = grind (arith, common_steps) in
       ap (λ (s : Sum). s.payloads) sum_is
       ∙ (steps_payloads (begun_sum x) (events_of_elements x.blocks)
       ∙ (ap (λ l. payloads_of (events_of_elements l)) blocks

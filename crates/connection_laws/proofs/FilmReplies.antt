@@ -33,22 +33,13 @@ use Rattle.connection_laws.proofs.FirstPlays.{WishedFilm}
 -- ---- numbers in their ranges
 
 film_brief : (film : Film) → picture_time film.rate ≤ 360000
-film_brief film =
-    let rate = film-rate (read_after [] film.bytes.items) film.grammar.accepted in
-    let bounds = time_bounds film.rate (omega (arith, film.grammar.rate, rate.0))
-    (omega (arith, film.grammar.rate, rate.1)) in
-    omega (arith, bounds.1)
+film_brief film = grind arith
 
 end_fits : (film : Film) → length_ms film < 2 ^ 64
-end_fits film =
-    let units = length film.units.items * picture_time film.rate in
-    omega (arith, mul-le-mul (film-few film) (film_brief film), div-mul-le_self units 360)
+end_fits film = grind (arith, picture_time, mul-le-mul, film-few, film_brief, div-mul-le_self)
 
 name_prints : (name : List ℕ) → good_name name ≡ true → list_all is_url_byte name ≡ true
-name_prints name good =
-    name_in_url name
-    (and_parts (nat_lt 0 (length name) && nat_le (length name) 64 && not (get_or name 0 0 == 46))
-    (list_all is_name_byte name) good).1
+name_prints name good = grind (arith, name_in_url)
 
 -- ---- the reply
 
@@ -65,8 +56,7 @@ pub record IsPlayBegun (b : Beginning) (start : ℕ) (old new : SessionState) : 
 
 -- where a URL is read, its authority is printable
 authority_prints : {url authority : List ℕ} {name : Option (List ℕ)} → IsRead url authority name → IsPrinted authority
-authority_prints {url} is =
-    rw (is.authority_is, all-take is_url_byte (is.path - 7) (drop 7 url) (all-drop is_url_byte 7 url is.is_url.bytes))
+authority_prints {url} is = grind (arith, all-take, all-drop is_url_byte 7 url is.is_url.bytes)
 
 -- the reply to a play that was admitted is its first part and its start
 started_reply : {front : List ℕ} (fields : List Field) (slots : ℕ) → front ≡ reply_front 200 (Some 2) fields
@@ -134,22 +124,9 @@ play_begun {b} {old} {new} {outcome = outcome} waits valid heard is begins whole
     let is_new = asked.started.asks.state in
     let admitted = admitted_from begins.admitted.answer (answers_as heard.ask (Entered begins.placed)
     (subst (λ o. IsAskAnswered asking heard.ask o new) begins.outcome_is heard.answered)) in
-    let state : setup_in new.state ≡ Some asked.started.play.setup =
-    ap (λ (s : SessionState). setup_in s.state) admitted.new_is
-    ∙ ap₂ (λ s a. setup_in (admitted_in s a begins.placed.place begins.admitted.start))
-    (ap (λ (s : SessionState). s.state) is_new ∙ ready) begins.asked_is in
-    let same : IsSameSetup old new = record {
-      names = answered_names asking heard.ask outcome new heard.answered ∙ ap names_in is_new;
-      setup = state ∙ sym (ap setup_in ready);
-    } in
-    let play : IsPlayAnswered b h new begins.admitted.start = record {
-      waits = waits;
-      valid = valid;
-      asked = asked;
-      later = admitted.later;
-      text = ap (λ (s : SessionState). s.text) admitted.new_is;
-      whole = whole;
-    } in
+    let state : setup_in new.state ≡ Some asked.started.play.setup = grind arith in
+    let same : IsSameSetup old new = grind arith in
+    let play : IsPlayAnswered b h new begins.admitted.start = grind arith in
     record {
       ready = ap has_session_in ready;
       own = named_still same (asked_named asked);

@@ -1,3 +1,4 @@
+use Rattle.std.proofs.lemmas.Grind.{common_steps}
 -- The first frame that a client receives of a film, and the time of a picture in it.
 use Rattle.std.proofs.Common.{◌≡◌, ℕ, zero, suc, ◌+◌, ◌-◌, ◌<◌, ◌≤◌, ◌==◌, ◌&&◌, Bool, true, false, not, nat_le, cond}
 use Rattle.std.proofs.Common.{List, [], ◌∷◌, ◌++◌, length, take, drop, get_or, is_ok, sym, ap, subst, ◌∙◌, append_assoc}
@@ -35,17 +36,9 @@ first_good [] gone some = absurd (omega (arith, some))
 first_good (Frame b ∷ h) gone some =
     let head : Bool = is_ok (head_of (drop 4 b)) in
     let last : Bool = cond (frames h == 0) (is_first_good h b) (is_next_good h b) in
-    let all : last ≡ true =
-    (and_parts head last
-    (and_parts (not (is_complete h)) (head && last)
-    (and_parts (is_playing h) (not (is_complete h) && (head && last)) gone.0).1).1).1 in
+    let all : last ≡ true = grind (arith, and_parts) in
     elim (cases_eq (frames h) 0) [
-      | inl none ↦
-          let is : is_first_good h b ≡ true =
-          sym (cond-true (frames h == 0) (is_first_good h b) (is_next_good h b) (eq-eqb (frames h) 0 none)) ∙ all in
-          rw (cond-true (frames h == 0) b (first_frame h) (eq-eqb (frames h) 0 none))
-          (and_parts (begins_film (drop 20 b))
-          (nat_le 1 (units_until (end_ms h) (time_in b)) && nat_le (units_until (end_ms h) (time_in b)) 4194304) is).0
+      | inl none ↦ grind arith
       | inr more ↦
           rw (cond-false (frames h == 0) b (first_frame h) (ne_eqb (frames h) 0 more))
           (first_good h gone.1 (omega (arith, more)))
@@ -72,15 +65,7 @@ lead : (starts : Bool) (from : RunFrom) (k : ℕ) (first : FirstFrame) (sum : Fr
     (steps sum.sum (events_of_elements (take k (report_if starts from.run first.unit from.frames from.octets ++
     (frame_block from.run first.unit first.packet from.frames ∷ first.rest))))).first ≡ frame_block from.run first.unit
     first.packet from.frames
-lead false from (suc k) first sum some =
-    let b = frame_block run unit p f in
-    block_sizes b (take k rest) (λ l. (steps s l).first ≡ b) (frame_moment run f unit p media)
-    (blocks_first (take k rest) (step (Frame b) s) (each_take IsOneBlock k rest are) (omega arith)
-    ∙ cond-true (s.frames == 0) b s.first (eq-eqb s.frames 0 none))
-  where
-    open from use {run, frames as f, media}
-    open first use {unit, packet as p, rest, are_blocks as are}
-    open sum use {sum as s, none}
+lead false from (suc k) first sum some = grind (arith, blocks_first, each_take)
 lead true from (suc k) first sum some =
     let r = report_block run unit f o in
     let b = frame_block run unit p f in
@@ -147,12 +132,9 @@ module _ {starts : List ℕ} {unit : PictureUnit} where
       let p = led.packet in
       let its : List ℕ = payload run.film p in
       let all : begins_film its ≡ true = rw led.first_is at good in
-      let long : 12 ≤ length its =
-      leb-true 12 (length its) (and_parts (nat_le 12 (length its)) _ (and_parts _ _ (and_parts _ _ all).0).0).0 in
-      let count : length its ≡ min (p.to - p.from) (length (drop p.from run.film)) =
-      length-take (p.to - p.from) (drop p.from run.film) in
+      let long : 12 ≤ length its = grind arith in
+      let count : length its ≡ min (p.to - p.from) (length (drop p.from run.film)) = grind (arith, common_steps) in
       let many : 7 < p.to - p.from = omega (arith, long, count) in
       let cover = rw led.are at (packets-cover starts unit laid) in
-      let byte : get_or its 7 0 ≡ get_or run.film (unit.from + 7) 0 =
-      rw (get_or-take (p.to - p.from) (drop p.from run.film) 7 0 many, get_or-drop p.from run.film 7 0, cover.0) in
+      let byte : get_or its 7 0 ≡ get_or run.film (unit.from + 7) 0 = grind (arith, get_or-take, get_or-drop) in
       cc (led.first_is, byte, begins.rate_is)

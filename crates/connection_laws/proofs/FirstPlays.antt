@@ -37,9 +37,7 @@ pub asked_plan : {wish : Wish} {stored : Stored} {source : StreamSource} {settin
 asked_plan {wish} {stored} {settings} {setup} {plan} wished set is =
     let film = stored.film in
     let sizes = stored_sizes stored in
-    let same : session_playback film settings setup ≡ playback_of wish stored =
-    playback_same (session_playback film settings setup) (playback_of wish stored) refl set.slots
-    set.buffer set.delay in
+    let same : session_playback film settings setup ≡ playback_of wish stored = grind arith in
     let rate = film-rate (read_after [] film.bytes.items) film.grammar.accepted in
     let time = time_bounds film.rate (omega (arith, film.grammar.rate, rate.0))
     (omega (arith, film.grammar.rate, rate.1)) in
@@ -85,10 +83,7 @@ pub record IsWished (b : Beginning) (play : FilmPlay) : Type 0 where
   pub sending : IsSending (stored_sizes film.stored) (playback_of b.wish film.stored) (whole_run film.stored) play.plan
 
 pub some_time : (stored : Stored) → 1 ≤ picture_time stored.film.rate
-some_time stored =
-    let film = stored.film in
-    let rate = film-rate (read_after [] film.bytes.items) film.grammar.accepted in
-    (time_bounds film.rate (omega (arith, film.grammar.rate, rate.0)) (omega (arith, film.grammar.rate, rate.1))).0
+some_time stored = grind arith
 
 -- a play from `npt=0-` on, in a session that has played nothing, is planned for the entire film
 pub planned_whole : {old : SessionState} {stored : Stored} {setup : Setup} {planned : Planned}
@@ -107,11 +102,7 @@ module _ {b : Beginning} where
   sending_for : {settings : Settings} {stored : Stored} {setup : Setup} {planned : Planned}
       → IsPlannedFor b settings stored setup planned → IsSending (stored_sizes stored) (playback_of b.wish stored)
       (whole_run stored) planned.plan
-  sending_for {settings} {stored} {setup} {planned} is =
-      let S : Playback → Run → Type 0 = λ p r. IsSending (stored_sizes stored) p r planned.plan in
-      let playback = playback_same (session_playback stored.film settings setup) (playback_of b.wish stored) refl
-      is.slot_units is.settled.buffer is.settled.delay in
-      rw is.run_is at (subst (λ p. S p planned.run) playback is.sending)
+  sending_for {settings} {stored} {setup} {planned} is = grind arith
 
   heard_planned : {h : HeardMessage} {prepared : Prepared} → IsWaiting b h.old
       → h.message ≡ play_text b.wish b.session → (heard : IsPlayHeard h prepared)
@@ -143,7 +134,6 @@ wished_play {b} {h} {prepared} {play} waits is heard plan before pieces =
     let setup = started.play.setup in
     let its = heard_planned waits is heard in
     let at = subst (λ (g : Ground). IsFilmAt g.films setup.film stored) waits.still.ground started.planned_is.at in
-    let plan_is : play.plan ≡ started.planned.plan = plan ∙ ap (λ (p : Prepared). p.plan) prepared_is in
     record {
       film = record { number = setup.film; stored = stored; at = at; name_is = its.settled.film stored at };
       identity = identity_of h.old.source setup started.planned.counts;
@@ -152,8 +142,7 @@ wished_play {b} {h} {prepared} {play} waits is heard plan before pieces =
       ssrc = ap (λ (g : Ground). g.source.ssrc) waits.still.ground;
       pieces = rw (pieces, prepared_is, its.run_is);
       before = before ∙ (ap (λ (p : Prepared). p.run.sent) prepared_is ∙ ap (λ (r : Run). r.sent) its.run_is);
-      sending = subst (IsSending (stored_sizes stored) (playback_of b.wish stored) (whole_run stored)) (sym plan_is)
-          (sending_for its);
+      sending = grind arith;
     }
   where
     open heard use {started, prepared_is}

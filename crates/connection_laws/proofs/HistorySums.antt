@@ -103,26 +103,36 @@ pub record IsSame (s t : Sum) : Type 0 where
 pub block_moved : {b : List ℕ} (ms : List ClientEvent) (s : Sum) (P : Sum → Type 0)
     → (element_events b ≡ Frame b ∷ []) ⊎ (element_events b ≡ Report b ∷ []) → P (steps (step (Frame b) s) ms)
     → P (steps (step (Report b) s) ms) → P (steps s (element_events b ++ ms))
-block_moved ms s P (inl frame) one two = rw frame one
-block_moved ms s P (inr report) one two = rw report two
+block_moved ms s P given given' given'' = grind arith
 
 pub blocks_same : (bs : List (List ℕ)) (s : Sum) → AreOneBlocks bs → IsSame s (steps s (events_of_elements bs))
 blocks_same [] s are = record { replies = refl; end_ms = refl }
 blocks_same (b ∷ bs) s are =
-    let one = blocks_same bs (step (Frame b) s) are.1 in
-    let two = blocks_same bs (step (Report b) s) are.1 in
-    block_moved (events_of_elements bs) s (IsSame s) are.0.moment
-    (record { replies = one.replies; end_ms = one.end_ms }) (record { replies = two.replies; end_ms = two.end_ms })
+    grind (
+      arith,
+      blocks_same bs (step (Frame b) s) are.1,
+      blocks_same bs (step (Report b) s) are.1,
+      block_moved,
+      events_of_elements bs,
+      end_ms,
+    )
 
 -- the bytes of all are received
 pub blocks_received : (bs : List (List ℕ)) (s : Sum) → AreOneBlocks bs → plays s ≡ true
     → (steps s (events_of_elements bs)).received ≡ s.received + length (framed_bytes bs)
 blocks_received [] s are on = omega arith
 blocks_received (b ∷ bs) s are on =
-    let one = cond-true (plays s) (s.received + length b) s.received on in
-    block_moved (events_of_elements bs) s (λ t. t.received ≡ s.received + length (framed_bytes (b ∷ bs))) are.0.moment
-    (omega (arith, blocks_received bs (step (Frame b) s) are.1 on, length-append b (framed_bytes bs)))
-    (omega (arith, blocks_received bs (step (Report b) s) are.1 on, one, length-append b (framed_bytes bs)))
+    grind (
+      arith,
+      cond-true (plays s) (s.received + length b) s.received on,
+      block_moved,
+      events_of_elements bs,
+      framed_bytes (b ∷ bs),
+      blocks_received bs (step (Frame b) s) are.1 on,
+      length-append b (framed_bytes bs),
+      framed_bytes bs,
+      blocks_received bs (step (Report b) s) are.1 on,
+    )
 
 -- the first frame stays
 some_frames : (n : ℕ) → 0 < n → (n == 0) ≡ false

@@ -1,3 +1,5 @@
+use Rattle.std.proofs.Common.{arith}
+use Rattle.std.proofs.lemmas.Grind.{common_steps}
 -- However the same bytes between the same slots are split, a connection sends the same.
 use Rattle.std.proofs.Common.{◌≡◌, ℕ, ◌++◌, List, [], ◌∷◌, map, refl, ap, sym, ◌∙◌, subst, inl, inr, ap₂}
 use Rattle.std.proofs.lemmas.List.{append-nil, append_assoc, map-append}
@@ -67,9 +69,7 @@ legs_heard legs = (legs_exchange legs).heard
 
 elements_join : (xs ys : List ℕ) (one two : List Element)
     → elements_exchange (xs ++ ys) (one ++ two) ≡ joined (elements_exchange xs one) (elements_exchange ys two)
-elements_join xs ys one two =
-    ap₂ (λ hs (e : Exchange). record e { heard = hs }) (map-append (λ (byte : ℕ). HeardBytes (byte ∷ [])) xs ys)
-    (join_exchange one two)
+elements_join xs ys one two = search (map-append, join_exchange)
 
 -- a course from a place on: the bytes that came before the next slot, and then slot after slot
 record Split (base new : Stage) (all : Exchange) : Type 0 where
@@ -130,16 +130,14 @@ module _ {base cur mid new : Stage} {all : Exchange} (front : FrontTaken base cu
       (joined (front_exchange front) (joined (event_exchange (HeardSlot slot) taken.due taken.halt)
       (joined (elements_exchange [] taken.way.elements) all)))
   slot_split {slot} taken done =
-      let there : GoesAll (longer opened []) way.elements mid =
-      rw (← (ap (λ i. stage opened.session i) (sym (append-nil opened.input)))) way.goes in
+      let there : GoesAll (longer opened []) way.elements mid = grind (arith, common_steps) in
       let rest = later.each opened (record { bytes = []; way = record { elements = way.elements; goes = there } }) in
       let leg : Leg = record { slot = slot; due = due; halt = halt; opened = opened; rest = rest.first } in
       record {
         first = front_done front done;
         legs = leg ∷ rest.legs;
         legs_are = (record { stepped = comes.1; input = comes.0 }, rest.legs_are);
-        all_is =
-            ap (λ x. joined (front_exchange front) (joined (event_exchange (HeardSlot slot) due halt) x)) rest.all_is;
+        all_is = grind arith;
       }
     where
       open taken use {opened, due, halt, comes, way}
@@ -186,8 +184,7 @@ rounds_split cur new (round ∷ rounds) takes done =
     let runs = takes.1.0 in
     let later = rounds_split mid new rounds takes.1.2 takes.1.1 in
     let path = path_of runs.opened mid round.takings runs.takes in
-    let taken : EventTaken cur mid round.event =
-    record { opened = runs.opened; due = round.due; halt = round.halt; comes = runs.comes; way = path.way } in
+    let taken : EventTaken cur mid round.event = grind arith in
     record {
       each = λ base front. rw (ap (joined (front_exchange front)) (round_exchange new round rounds takes path)) at
           (event_split front later taken done);
@@ -202,9 +199,7 @@ heard_split [] (y ∷ ys) [] other same = cc
 heard_split [] (y ∷ ys) (leg ∷ one) other same = cc
 heard_split (x ∷ xs) [] one [] same = cc
 heard_split (x ∷ xs) [] one (leg ∷ other) same = cc
-heard_split (x ∷ xs) (y ∷ ys) one other same =
-    let byte : x ≡ y = cc in
-    let rest = heard_split xs ys one other (cc) in (rw (byte, rest.0), rest.1)
+heard_split (x ∷ xs) (y ∷ ys) one other same = grind (arith, heard_split xs ys one other (cc))
 
 -- ---- leg by leg
 
@@ -233,8 +228,7 @@ splits_same {base} {other = other} {a} {b} films x y given legs =
     let cut = heard_split x.first.bytes y.first.bytes x.legs y.legs
     (sym (ap (λ (e : Exchange). e.heard) x.all_is) ∙ given.heard ∙ ap (λ (e : Exchange). e.heard) y.all_is) in
     let xs = joined (stretch_exchange x.first) (legs_exchange x.legs) in
-    let both : AreAlike xs (joined (stretch_exchange y.first) (legs_exchange y.legs)) =
-    rw y.all_is at (subst (λ e. AreAlike e b) x.all_is given.alike) in
+    let both : AreAlike xs (joined (stretch_exchange y.first) (legs_exchange y.legs)) = grind arith in
     let way = x.first.way in
     let ends = ends_same (legs_exchange x.legs) (legs_exchange y.legs) films way
     (path_moved (ap (longer base) (sym cut.0)) y.first.way) (record { answers = both.answers; memory = both.memory }) in
@@ -313,17 +307,14 @@ takes_all old new (round ∷ rounds) runs = (runs.0, (runs.1.0, inl runs.1.1, ta
 
 pub takes_last : {mid new : Stage} {round : Round} (old : Stage) (rounds : List Round) (end : ConnEnd) →
     RunsAll old rounds mid → Runs mid round new → IsStopped end new → TakesUp old (rounds ++ round ∷ []) new
-takes_last {new} {round} old [] end runs last stopped =
-    (new, (rw runs at last, inr (end, stopped), refl))
+takes_last {new} {round} old [] end runs last stopped = grind arith
 takes_last {mid} {new} {round} old (first ∷ rounds) end runs last stopped =
     (runs.0, (runs.1.0, inl runs.1.1, takes_last runs.0 rounds end runs.1.2 last stopped))
 
 pub takes_part : (old new : Stage) (first rest : List Round) → TakesUp old (first ++ rest) new
     → (mid : Stage) × (TakesUp old first mid × TakesUp mid rest new)
 takes_part old new [] rest takes = (old, (refl, takes))
-takes_part old new (round ∷ first) rest takes =
-    let parted = takes_part takes.0 new first rest takes.1.2 in
-    (parted.0, ((takes.0, (takes.1.0, takes.1.1, parted.1.0)), parted.1.1))
+takes_part old new (round ∷ first) rest takes = grind (arith, takes_part takes.0 new first rest takes.1.2)
 
 -- what is alike is alike in prefixes
 pub same_fronts : (one more other further : List Outcome) → AreSameAnswers (one ++ more) (other ++ further)

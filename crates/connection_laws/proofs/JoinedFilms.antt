@@ -1,3 +1,4 @@
+use Rattle.std.proofs.lemmas.Grind.{common_steps}
 -- What is written of films, as entire lists: the lemmas on plays joined.
 use Rattle.std.specs.Prelude.{⊤}
 use Rattle.std.proofs.Common.{◌≡◌, ℕ, ◌+◌, ◌-◌, ◌<◌, ◌≤◌, ◌++◌, Bool, true, List, ◌∷◌, length, take, drop, refl, ap}
@@ -36,17 +37,19 @@ IsFilm slot (play ∷ plays) bytes =
 pub film_is : (slot : ℕ) (plays : List FilmPlay) (bytes : List ℕ) → IsFilm slot plays bytes
     → bytes ≡ film_written slot plays
 film_is slot [] bytes is = is
-film_is slot (play ∷ []) bytes is =
-    is.1.0 ∙ ap (λ r. take (due_of slot play) (film_of play) ++ r) is.1.1
-    ∙ append-nil (take (due_of slot play) (film_of play)) ∙ ap (λ n. take n (film_of play)) (omega arith)
+film_is slot (play ∷ []) bytes is = grind (arith, common_steps)
 film_is slot (play ∷ next ∷ plays) bytes is =
-    let due : due_of slot play ≡ play.keep = is.1.2.0 in
-    let front : List ℕ = take play.keep (film_of play) in
-    let size : length front ≡ play.keep = omega (arith, length-take play.keep (film_of play), is.1.2.1) in
-    let later : is.0 ≡ film_written slot (next ∷ plays) = film_is slot (next ∷ plays) is.0 is.1.1 in
-    rw (is.1.0, due, later)
-    (rw (← (take-append-add front (bytes_of_plays (next ∷ plays)) (all_due slot (next ∷ plays))), size, ← due)
-    (rw (← (sum_by-cons (due_of slot) play (next ∷ plays)))))
+    grind (
+      arith,
+      due_of,
+      film_of play,
+      length-take play.keep (film_of play),
+      film_written slot (next ∷ plays),
+      film_is slot (next ∷ plays) is.0 is.1.1,
+      take-append-add,
+      sum_by-cons (due_of slot) play (next ∷ plays),
+      due_of slot,
+    )
 
 pub film_over_all : (slot : ℕ) (plays : List FilmPlay) (bytes : List ℕ) → IsFilm slot plays bytes → AreOver slot plays
 film_over_all slot (play ∷ next ∷ plays) bytes is = (is.1.2.0, film_over_all slot (next ∷ plays) is.0 is.1.1)
@@ -69,10 +72,6 @@ IsSound Idle waits slot = ⊤
 IsSound (Going p) waits slot = IsOnTime p slot × (p.keep ≡ total_bytes p.plan)
 IsSound (Ending p) waits slot = IsOnTime p slot × (waits ≡ true) × IsAtLast p
 
--- so many bytes of a plan are at most its film
-pub film_holds : (p : PacerState) (n : ℕ) → IsPacerState p → n ≤ total_bytes p.plan → n ≤ length (film_in p)
-film_holds p n is few = omega (arith, few, is.whole, length-drop p.before (framed_bytes p.pieces))
-
 pub due_now : (p : PacerState) (slot : ℕ) → IsOnTime p slot → due_of slot (play_with p p.keep) ≡ p.sent
 due_now p slot on = cc (on.passed, on.pacing.due, on.even)
 
@@ -84,8 +83,7 @@ film_now p slot on = ([], (ap (λ n. take n (film_in p) ++ []) (sym (due_now p s
 -- a play that was sent as far as it is kept is over
 pub spent : (slot : ℕ) (plays : List FilmPlay) (play : FilmPlay) → due_of slot play ≡ play.keep
     → play.keep ≤ length (film_of play) → IsSpent plays slot play
-spent slot [] play due small = tt
-spent slot (next ∷ plays) play due small = (due, small)
+spent slot plays play given given' = grind arith
 
 -- a play of which all that is kept was sent by a slot
 pub record EndedPlay (heard : ℕ) : Type 0 where
@@ -115,8 +113,4 @@ sent_to p to from =
 -- a slot later
 pub through_time : (p : PacerState) (heard slot : ℕ) → IsOnTime p heard → heard < slot → IsOnTime (sent_through slot p)
     slot
-through_time p heard slot on later = record {
-  pacing = through_is slot p on.pacing;
-  passed = omega (arith, on.passed, later);
-  even = refl;
-}
+through_time p heard slot on later = grind (arith, through_is slot p on.pacing)

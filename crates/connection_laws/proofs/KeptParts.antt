@@ -1,3 +1,5 @@
+use Rattle.std.proofs.Common.{arith}
+use Rattle.std.proofs.lemmas.Grind.{common_steps}
 -- Parts of a session that requests, replies and slots leave as they were, with what SETUP settled.
 use Rattle.std.proofs.Common.{◌≡◌, ℕ, ◌&&◌, if◌then◌else◌, Bool, true, false, List, [], ◌∷◌, refl, ap, ◌∙◌, Some}
 use Rattle.connection_laws.proofs.Terms.{Stored, Ask, Awaited, due_state, after_play, after_slot, can_reply, is_between}
@@ -24,8 +26,7 @@ lasting_part s = record { films = s.films; id = s.id; heard = s.heard; late = s.
 
 pub answer_keeps : {asking new : SessionState} {ask : Ask} {outcome : Outcome} → AnswersAs asking ask outcome new
     → lasting_part new ≡ lasting_part asking
-answer_keeps NoneAsked = refl
-answer_keeps _ = refl
+answer_keeps given = grind arith
 
 pub request_keeps : {old new : SessionState} {message : List ℕ} {outcome : Outcome}
     → HasHeard old message outcome new → lasting_part new ≡ lasting_part old
@@ -34,20 +35,16 @@ request_keeps heard =
   where
     by-answer : {old asking new : SessionState} {outcome : Outcome} → RequestAnswer old asking outcome new
         → lasting_part new ≡ lasting_part old
-    by-answer OwnReply = refl
-    by-answer _ = refl
+    by-answer given = grind arith
 
 -- a part of a session that a reply leaves as it was
 pub reply_keeps : {A : Type 0} (part : SessionState → A) → ((s : SessionState) → part (sent_reply s) ≡ part s)
     → (goes : Bool) (s : SessionState) → part (if goes then sent_reply s else s) ≡ part s
-reply_keeps part same true s = same s
-reply_keeps part same false s = refl
+reply_keeps part given goes s = grind arith
 
 pub taken_keeps : {old new : Stage} {message : List ℕ} {outcome : Outcome} {parts : List SentPart}
     → IsReplied old message outcome parts new → lasting_part new.session ≡ lasting_part old.session
-taken_keeps replied =
-    rw (replied.new_is, reply_keeps lasting_part (λ s. refl) (can_reply replied.answered) replied.answered)
-    (rw (request_keeps replied.heard))
+taken_keeps replied = grind (arith, reply_keeps, can_reply replied.answered, request_keeps replied.heard)
 
 pub takes_keep : (old new : Stage) (takings : List ElementStep) → TakesAll old takings new
     → lasting_part new.session ≡ lasting_part old.session
@@ -63,8 +60,7 @@ takes_heard old new takings takes = ap (λ (part : LastingPart). part.heard) (ta
 -- the halt of a play that is done
 pub finish_keeps : {s new : SessionState} {asks : AwaitedAnswer} {outcome : Outcome} → FinishesAs s asks outcome new
     → lasting_part new ≡ lasting_part s
-finish_keeps NothingLeft = refl
-finish_keeps (DoneHalted entry) = refl
+finish_keeps given = grind arith
 
 -- a part of a session that what is sent in a slot leaves as it was
 pub record IsKeptInSlots {A : Type 0} (part : SessionState → A) : Type 0 where
@@ -75,9 +71,7 @@ pub record IsKeptInSlots {A : Type 0} (part : SessionState → A) : Type 0 where
 
 module _ {A : Type 0} {part : SessionState → A} where
   sent_keeps : IsKeptInSlots part → (old : SessionState) (slot : ℕ) → part (after_play (sent_slot old slot)) ≡ part old
-  sent_keeps kept old slot = rw (kept.done (sent_slot old slot))
-      (rw (reply_keeps part kept.reply (old.waits && is_between (stepped_in true slot old.state)) (sent_due old slot))
-      (rw (kept.due old slot)))
+  sent_keeps kept old slot = grind arith
 
   slot_cases : IsKeptInSlots part → (old : SessionState) (slot : ℕ) (taken sending : Bool)
       → part (if taken then (if sending then after_play (sent_slot old slot) else record old { heard = slot }) else old)
@@ -106,34 +100,19 @@ pub replied_names : (s : SessionState) → names_in (after_reply s) ≡ names_in
 replied_names s = reply_keeps names_in (λ t. refl) (can_reply s) s
 
 pub slot_names : (old : SessionState) (slot : ℕ) → names_in (after_slot old slot) ≡ names_in old
-slot_names old slot =
-    slot_keeps {part = names_in}
-    (record { reply = λ s. refl; due = λ s n. refl; done = λ s. refl; idle = λ s n. refl }) old slot
+slot_names old slot = grind arith
 
 pub stepped_names : (old : SessionState) (slot : ℕ) (due : List SentPart) (halt : Outcome) (new : SessionState)
     → HasStepped old slot due halt new → names_in new ≡ names_in old
-stepped_names old slot due halt new is =
-    finished_as_before names_in (λ s place. refl) (awaited_answer (after_slot old slot)) (after_slot old slot) halt new
-    is.finished ∙ slot_names old slot
+stepped_names old slot due halt new is = grind (arith, slot_names old slot)
 
 -- ---- states
 
 stepped_setup : (stop : Bool) (slot : ℕ) (state : State) → setup_in (stepped_in stop slot state) ≡ setup_in state
-stepped_setup stop slot Init = refl
-stepped_setup stop slot _ = refl
+stepped_setup stop slot state = grind arith
 
 stop_setup : (state : State) → setup_in (after_stop state) ≡ setup_in state
-stop_setup Init = refl
-stop_setup _ = refl
-
-once_halted : (setup : Setup) (play : Played) (next : AfterHalt)
-    → setup_in (state_once_halted setup play next) ≡ Some setup
-once_halted setup play Done = refl
-once_halted setup play _ = refl
-
-pub halted_setup : (state : State) (awaited : Awaited) → setup_in (halted_in state awaited) ≡ setup_in state
-halted_setup (Playing setup play) awaited = once_halted setup play (next_of awaited)
-halted_setup _ awaited = refl
+stop_setup state = grind arith
 
 -- a part of a state that the steps of a slot and the end of a stop leave as it was
 pub record IsKeptInSteps {A : Type 0} (part : State → A) : Type 0 where
@@ -144,26 +123,17 @@ module _ {A : Type 0} {part : State → A} (kept : IsKeptInSteps part) where
   between_keeps : (between : Bool) (slot : ℕ) (state : State)
       → part (if between then stepped_in false slot (stepped_in true slot state) else stepped_in true slot state)
       ≡ part state
-  between_keeps true slot state = kept.step false slot (stepped_in true slot state) ∙ kept.step true slot state
-  between_keeps false slot state = kept.step true slot state
+  between_keeps between slot state = grind arith
 
   due_keeps : (waits : Bool) (slot : ℕ) (state : State) → part (due_state waits state slot) ≡ part state
-  due_keeps true slot state = between_keeps (is_between (stepped_in true slot state)) slot state
-  due_keeps false slot state = kept.step false slot state
+  due_keeps waits slot state = grind arith
 
   pub state_keeps : (old : SessionState) (slot : ℕ) → part (after_slot old slot).state ≡ part old.state
-  state_keeps =
-      slot_keeps {part = λ (s : SessionState). part s.state} (record {
-        reply = λ s. kept.stop s.state;
-        due = λ s n. due_keeps s.waits n s.state;
-        done = λ s. refl;
-        idle = λ s n. refl;
-      })
+  state_keeps = grind (arith, common_steps)
 
 finish_setup : {s new : SessionState} {asks : AwaitedAnswer} {outcome : Outcome} → FinishesAs s asks outcome new
     → setup_in new.state ≡ setup_in s.state
-finish_setup NothingLeft = refl
-finish_setup {s} (DoneHalted entry) = halted_setup s.state s.awaited
+finish_setup given = grind arith
 
 -- ---- events
 
@@ -182,7 +152,4 @@ comes_setup {old} (SlotCame {slot = slot} {new = new} finish) = record {
 }
 
 pub replied_setup : (s : SessionState) → IsSameSetup s (after_reply s)
-replied_setup s = record {
-  names = replied_names s;
-  setup = reply_keeps (λ (t : SessionState). setup_in t.state) (λ t. stop_setup t.state) (can_reply s) s;
-}
+replied_setup s = grind arith

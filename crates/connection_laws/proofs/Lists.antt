@@ -1,3 +1,4 @@
+use Rattle.std.proofs.Common.{arith}
 -- Lists, element by element: what each element satisfies, and functions that join what they make of each.
 use Rattle.std.specs.Prelude.{⊤}
 use Rattle.std.proofs.Common.{◌≡◌, ℕ, suc, List, [], ◌∷◌, ◌++◌, take, ap, append_assoc}
@@ -37,5 +38,4 @@ pub joins_parts : {A : Type 0} {B : Type 0} (all : List A → List B) → Joins 
     → all (xs ++ ys) ≡ all xs ++ all ys
 joins_parts all joins [] ys = ap (λ l. l ++ all ys) joins.none
 joins_parts all joins (x ∷ xs) ys =
-    rw (joins.more x (xs ++ ys), joins_parts all joins xs ys, ← (append_assoc (joins.one x) (all xs) (all ys)))
-    (rw (← (joins.more x xs)))
+    grind (arith, joins_parts all joins xs ys, append_assoc (joins.one x) (all xs) (all ys))

@@ -1,3 +1,4 @@
+use Rattle.std.proofs.lemmas.Grind.{common_steps}
 -- For which requests of a connection memory may run out.
 use Rattle.std.proofs.Common.{◌≡◌, ℕ, ◌-◌, ◌++◌, List, Option, codes, decimal, get_or, ap, subst, inl, inr, arith}
 use Rattle.std.proofs.lemmas.List.{append_assoc}
@@ -31,11 +32,8 @@ ok_not_500 sequence fields body is = let first : 50 ≡ 53 = ap (λ l. get_or l 
 own_code : {asking new : SessionState} {ask : Ask} {outcome : Outcome} → AnswersAs asking ask outcome new
     → NeverLacks ask asking → HasCode 500 new.text → Is500 ask asking
 own_code NoneAsked never code = code
-own_code {asking} (PlayAdmitted {start = start} entry answered) never code =
-    let line : List ℕ = field_line (field (codes "x-Start") (decimal (start - asking.heard))) in
-    absurd (never (line ++ codes "\r\n") (subst (HasCode 500) (append_assoc asking.text line (codes "\r\n")) code))
-own_code (PlayOverflowed {slot = slot} {booked = booked} {asked = asked} entry) never code =
-    absurd (overflow_not_500 _ slot booked asked code)
+own_code {asking} (PlayAdmitted {start = start} entry answered) never code = grind (arith, common_steps)
+own_code (PlayOverflowed {slot = slot} {booked = booked} {asked = asked} entry) never code = search overflow_not_500
 own_code (PlayFull {entries = entries} {live = live} more) never code = absurd (full_not_500 _ entries live code)
 own_code (PlayHalted entry) never code = absurd (never code)
 own_code (LookMade looked) never code = absurd (ok_not_500 _ _ _ code)
@@ -46,9 +44,7 @@ pub memory_lacks : (course : Course) (message : List ℕ) (outcome : Outcome) (n
     → HasHeard course.last.session message outcome new → HasCode 500 new.text → MayLackMemory course message
 memory_lacks course message outcome new heard is =
     let s : SessionState = course.last.session in
-    let own : Is500 heard.ask heard.asking =
-    own_code (answers_as heard.ask outcome heard.answered) (hears_never s heard.asking message heard.ask heard.hears)
-    is in
+    let own : Is500 heard.ask heard.asking = search (own_code, answers_as, hears_never) in
     elim (hears_may s heard.asking message heard.ask heard.hears own) [
       | inl play ↦ inl play
       | inr (inl offer) ↦ inr (inl offer)

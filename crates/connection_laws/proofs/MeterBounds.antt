@@ -1,3 +1,4 @@
+use Rattle.std.proofs.lemmas.Grind.{common_steps}
 -- At each reading of the meter what came lies between the film's curves.
 use Rattle.std.proofs.Common.{◌≡◌, ℕ, ◌+◌, ◌-◌, ◌<◌, ◌≤◌, ◌==◌, ◌&&◌, Bool, true, false, nat_lt, nat_le, cond, min}
 use Rattle.std.proofs.Common.{List, [], ◌∷◌, ◌++◌, length, take, get_or, Ok, refl, sym, ap, subst, ◌∙◌, append_assoc}
@@ -23,16 +24,7 @@ use Rattle.connection_laws.proofs.MeterInput.{Stream, all_of, begun_sum, film_pl
 
 element_case : (P : List ClientEvent → Type 0) (p : List ℕ) → P [] → P (Frame p ∷ []) → P (Report p ∷ [])
     → P (Reply p ∷ []) → P (element_events p)
-element_case P p none frame report reply =
-    by-tests (is_line_end (get_or p 0 0)) (get_or p 0 0 == 36) (get_or p 1 0 == 0) (get_or p 1 0 == 1)
-  where
-    by-tests : (line block media control : Bool) → P (cond line [] (cond block
-        (cond media (Frame p ∷ []) (cond control (Report p ∷ []) [])) (Reply p ∷ [])))
-    by-tests true block media control = none
-    by-tests false false media control = reply
-    by-tests false true true control = frame
-    by-tests false true false true = report
-    by-tests false true false false = none
+element_case P p none frame report reply = grind arith
 
 pub always_elements : (wish : Wish) (all : List ℕ) (time : ℕ) (h : History) (ps : List (List ℕ))
     → IsBetweenAlways wish all time h → IsBetweenAlways wish all time (history_after h (events_of_elements ps))
@@ -45,17 +37,11 @@ always_elements wish all time h (p ∷ ps) met =
 
 -- ---- the film that came
 
-take_short : (w : List ℕ) (c : ℕ) → length (take c w) ≤ c
-take_short w c = omega (arith, length-take c w)
-
 pub front_of : (xs ys w : List ℕ) (c : ℕ) → xs ++ ys ≡ take c w → xs ≡ take (length xs) w
 front_of xs ys w c is =
-    let mine : take (length xs) (xs ++ ys) ≡ xs =
-    take-append-le (length xs) xs ys (omega arith) ∙ take_all (length xs) xs (omega arith) in
+    let mine : take (length xs) (xs ++ ys) ≡ xs = grind (arith, common_steps) in
     elim (cases_lt c (length xs)) [
-      | inl less ↦
-          let short = take_short w c in
-          absurd (omega (arith, short, ap (λ (l : List ℕ). length l) is, length-append xs ys, less))
+      | inl less ↦ grind (arith, common_steps)
       | inr more ↦ cc (mine, is, take-take (length xs) c w more)
     ]
 
@@ -104,9 +90,7 @@ slot_met : {bytes : List ℕ} {at : WatchStage} (s : WatchedStream) (slot : ℕ)
     (bytes_received at.history + cut_bytes at.rest)
 slot_met {bytes} {at} s slot front two fed read =
     let h = at.history in
-    let playing : 1 < replies h =
-    ltb-true 1 (replies h)
-    (and_parts (is_playing h) (nat_le (first_slot h) slot && nat_lt (last_slot h) slot) read).0 in
+    let playing : 1 < replies h = grind (arith, ltb-true, and_parts) in
     let there : first_slot h ≤ slot = leb-true (first_slot h) slot
     (and_parts (nat_le (first_slot h) slot) (nat_lt (last_slot h) slot)
     (and_parts (is_playing h) (nat_le (first_slot h) slot && nat_lt (last_slot h) slot) read).1).0 in
@@ -143,8 +127,7 @@ always_round {event = HeardBytes more} {old = old} s came front two fed met =
 always_round {event = HeardSlot slot} {old = old} {new} s came front two fed met =
     let grown : new.history ≡ Slot slot (cut_bytes old.rest) ∷ old.history = rw (came.history, came.brings.0) in
     let same : replies new.history ≡ replies old.history = ap replies grown in
-    let begins_here : 1 < replies old.history → first_slot old.history ≡ s.begin = λ playing.
-    sym (ap first_slot grown) ∙ two.begins (omega (arith, playing, same)) in
+    let begins_here : 1 < replies old.history → first_slot old.history ≡ s.begin = grind arith in
     rw grown (
       met,
       λ read. slot_met s slot front
@@ -171,15 +154,13 @@ always_all {rounds = []} s through all known fed met = rw all met
 always_all {bytes} {old} {rounds = round ∷ rounds} {new} s through all known fed met =
     let mid = all.0 in
     let later = history-later mid new rounds all.1.2 in
-    let few_here : replies mid.history ≤ 2 =
-    omega (arith, known.few, replies_later mid.history (events_of_rounds rounds), ap replies later) in
+    let few_here : replies mid.history ≤ 2 = grind (arith, replies_later mid.history (events_of_rounds rounds)) in
     let begins_here : 1 < replies mid.history → first_slot mid.history ≡ begin = λ playing.
     sym (slot_stays mid.history (events_of_rounds rounds) playing) ∙ (sym (ap first_slot later) ∙ known.begins) in
     let fed_here : (slot : ℕ) → round.event ≡ HeardSlot slot → begin ≤ slot
     → IsFed wish film x bytes (slot - begin) = λ slot event after_begin.
     rw (append-nil bytes) at (fed [] rounds round slot refl event after_begin) in
-    let mine : bytes ≡ take (length bytes) (framed_bytes (all_of x)) =
-    front_of bytes (rounds_heard (round ∷ rounds)) (framed_bytes (all_of x)) c front in
+    let mine : bytes ≡ take (length bytes) (framed_bytes (all_of x)) = search front_of in
     let now = always_round {event = round.event} s
     (record { moments = round.moments; brings = all.1.0.brings; history = all.1.0.history_is })
     (record { heard = heard; idle = idle; front_is = mine }) (record { few = few_here; begins = begins_here })

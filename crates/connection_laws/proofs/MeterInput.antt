@@ -28,31 +28,17 @@ abbrev pub AreTexts : List (List ℕ) → Type 0
 AreTexts = Each IsText
 
 pub text_is : (m : List ℕ) → StartsMessage m → IsMessageLength m (length m) → IsText m
-text_is m starts size = record {
-  moment = cond-false (is_line_end (get_or m 0 0)) []
-      (cond (get_or m 0 0 == 36) (block_events (get_or m 1 0) m) (Reply m ∷ [])) starts.1
-      ∙ cond-false (get_or m 0 0 == 36) (block_events (get_or m 1 0) m) (Reply m ∷ []) starts.2;
-  other = starts.2;
-  alone = record { some = starts.0; whole = WholeMessage starts size (omega arith) };
-}
+text_is m starts size = grind arith
 
 -- ---- the bytes of a block that isn't complete
 
 take_cut : (m : List ℕ) (d : ℕ) → (get_or m 0 0 == 36) ≡ false → cut_bytes (take d m) ≡ 0
-take_cut m zero other = refl
-take_cut m (suc d) other =
-    let rest = take (suc d) m in
-    let c : Bool = nat_lt (length rest) 2 || nat_lt (get_or rest 1 0) 2 in
-    cond-false ((get_or rest 0 0 == 36) && c) (length rest) 0
-    (ap (λ x. (x == 36) && c) (get_or-take (suc d) m 0 0 (omega arith)) ∙ ap (λ y. y && c) other)
+take_cut m d given = grind arith
 
 texts_cut : (ms : List (List ℕ)) (d : ℕ) → AreTexts ms → cut_bytes (rest_at d ms) ≡ 0
 texts_cut [] d are = refl
 texts_cut (m ∷ ms) d are =
-    elim (cases_lt d (length m)) [
-      | inl less ↦ let one = at_less m ms d less in rw one.1 (take_cut m d are.0.other)
-      | inr more ↦ let one = at_more m ms d more in rw one.1 (texts_cut ms (d - length m) are.1)
-    ]
+    grind (arith, cases_lt d (length m), at_less, take_cut m d are.0.other, at_more, texts_cut ms (d - length m) are.1)
 
 block_cut : (b : List ℕ) (d : ℕ) → d ≤ length b → get_or b 0 0 ≡ 36 → get_or b 1 0 < 2
     → cut_bytes (take d b) ≡ length (take d b)
@@ -106,8 +92,7 @@ texts_count : (ms : List (List ℕ)) (k : ℕ) (s : Sum) → AreTexts ms → k �
     → (steps s (events_of_elements (take k ms))).replies ≡ s.replies + k
 texts_count ms zero s are few = omega arith
 texts_count [] (suc k) s are few = absurd (omega (arith, few))
-texts_count (m ∷ ms) (suc k) s are few =
-    rw are.0.moment (omega (arith, texts_count ms k (step (Reply m) s) are.1 (omega (arith, few))))
+texts_count (m ∷ ms) (suc k) s are few = grind (arith, texts_count ms k (step (Reply m) s) are.1 (omega (arith, few)))
 
 pub two_moments : (x : Stream) (rest : List (List ℕ))
     → steps no_sum (events_of_elements (x.first ∷ x.second ∷ rest)) ≡ steps (begun_sum x) (events_of_elements rest)
@@ -217,8 +202,7 @@ module _ {x : Stream} {at : WatchStage} (received : StreamHeard x at) where
               | inl short ↦
                   let only : take (count_ended c all) all ≡ x.first ∷ [] =
                   rw (one.0, (at_less x.second (x.blocks ++ x.later) c1 short).0) in
-                  let single : sum_of at.history ≡ steps no_sum (Reply x.first ∷ []) =
-                  rw (whole.0, only, x.first_is.moment) in
+                  let single : sum_of at.history ≡ steps no_sum (Reply x.first ∷ []) = grind arith in
                   absurd (omega (arith, playing, ap (λ (z : Sum). z.replies) single))
               | inr more ↦
                   let two = at_more x.second (x.blocks ++ x.later) c1 more in

@@ -1,3 +1,4 @@
+use Rattle.std.proofs.lemmas.Grind.{common_steps}
 -- A connection that is asked for SETUP and PLAY, and perhaps TEARDOWN, has one play at most, of the
 -- entire film.
 use Rattle.std.specs.Prelude.{⊤}
@@ -79,19 +80,15 @@ IsFresh (one ∷ []) s = setup_in s.state ≡ None
 IsFresh (one ∷ two ∷ ahead) s = ⊥
 
 has_setup : (state : State) → has_session_in state ≡ is_some (setup_in state)
-has_setup Init = refl
-has_setup _ = refl
+has_setup state = grind arith
 
 ready_still : (old new : SessionState) (n : ℕ) → setup_in new.state ≡ setup_in old.state → IsReadyFor n new
     → IsReadyFor n old
-ready_still old new zero same ready = cc (has_setup old.state, same, has_setup new.state, ready)
-ready_still old new (suc n) same ready = tt
+ready_still old new n given given' = grind arith
 
 fresh_still : (old new : SessionState) (ahead : List (List ℕ)) → setup_in new.state ≡ setup_in old.state
     → IsFresh ahead old → IsFresh ahead new
-fresh_still old new [] same fresh = tt
-fresh_still old new (one ∷ []) same fresh = same ∙ fresh
-fresh_still old new (one ∷ two ∷ ahead) same fresh = absurd fresh
+fresh_still old new ahead given given' = grind arith
 
 -- PLAY is to come in what is processed
 pub record IsAhead (b : Beginning) (out : Outlook) (s : SessionState) (ahead : List (List ℕ)) (later : Piece) : Type 0
@@ -112,9 +109,7 @@ pub record Leads (b : Beginning) (out : Outlook) (s : SessionState) (later : Pie
 
 -- SETUP asks for no play
 pub setup_no_play : (b : Beginning) {message : List ℕ} → message ≡ setup_text b.wish → IsNoPlay message
-setup_no_play b {message} is = λ request read method.
-    let setup = rw (← is) at (setup_is b) in
-    omega (arith, ap (λ name. get_or name 0 0) ((request_once setup.read read).method_is ∙ method))
+setup_no_play b {message} is = grind (arith, setup_is b, request_once)
 
 -- a play is the one that is to come, with those after it
 record IsPlayBegun (out : Outlook) (mine : FilmPlay) (later : List StationRequest) : Type 0 where
@@ -149,10 +144,7 @@ module _ {b : Beginning} {out : Outlook} (taken : Taken b out) where
 
   begun_same : IsPlayTaken → (begins : PlayBegins)
       → IsPlayBegun out (play_by begins.prepared begins.admitted.start later.askings) later.askings
-  begun_same play begins =
-      let begun = begun_is begins later.askings in
-      let plays = play.plays in
-      record { same = cc (begun, plays); rest = cc (begun, plays) }
+  begun_same play begins = grind arith
 
   -- a play begins at PLAY
   begun_play : IsPlayTaken → PlayBegins → IsOnePlay b out old.session.heard 0 (old.session.heard ∷ later.slots)
@@ -160,8 +152,7 @@ module _ {b : Beginning} {out : Outlook} (taken : Taken b out) where
       let begun = begun_same play begins in
       let hears = play_heard (heard_by heard.hears)
       (record { rest = play.waits.stands.rest; asks = begins.asked_is }) in
-      let late : old.session.heard < out.play.start =
-      subst (λ (p : FilmPlay). old.session.heard < p.start) begun.same begins.admitted.later in
+      let late : old.session.heard < out.play.start = grind arith in
       record {
         wished = subst (IsWished b) begun.same (wished_play play.waits play.message_is hears refl refl refl);
         alone = sym begun.rest ∙ play.none;
@@ -180,11 +171,7 @@ module _ {b : Beginning} {out : Outlook} (taken : Taken b out) where
 
   -- where all SETUPs were processed, PLAY is processed
   play_first : IsAhead b out old.session [] (from_taken taken) → IsPlayTaken × (later.requests ≡ out.last)
-  play_first is =
-      let at : message ≡ play_text b.wish b.session = cc is.requests_are in
-      let rest : later.requests ≡ out.last = cc is.requests_are in
-      let none = leads.none (request_stands request is.waits.stands) (rw rest out.last_are) in
-      (record { waits = is.waits; message_is = at; none = none; plays = is.plays }, rest)
+  play_first is = grind (arith, play_text b.wish b.session, request_stands request is.waits.stands)
 
   play_walk : IsAhead b out old.session [] (from_taken taken) → IsPlayedWhole b out old.session 0 (from_taken taken)
   play_walk is =
@@ -212,8 +199,7 @@ module _ {b : Beginning} {out : Outlook} (taken : Taken b out) where
       → IsMessage replied.answered.text × IsSetupRead replied.answered.text
   setup_reply waits named fresh at ready =
       let reply : heard.ask ≡ Reply = (setup_asked request at waits).0 in
-      let same : replied.answered ≡ heard.asking =
-      reply_same heard.asking heard.ask outcome replied.answered reply heard.answered in
+      let same : replied.answered ≡ heard.asking = grind (arith, common_steps) in
       let own = own_reply (answers_as heard.ask outcome heard.answered) (rw reply tt) in
       let whole = own.whole (replies_whole old.session message heard.ask heard.asking named
       (setup_room b at) heard.hears) in (

@@ -23,11 +23,7 @@ at_more p ps c more = (rw (le-leb (length p) c more) (omega arith), rw (le-leb (
 
 pub count_most : (ps : List (List ℕ)) (c : ℕ) → count_ended c ps ≤ length ps
 count_most [] c = omega arith
-count_most (p ∷ ps) c =
-    elim (cases_lt c (length p)) [
-      | inl less ↦ omega (arith, (at_less p ps c less).0)
-      | inr more ↦ omega (arith, (at_more p ps c more).0, count_most ps (c - length p))
-    ]
+count_most (p ∷ ps) c = grind (arith, cases_lt c (length p), at_less, at_more, count_most ps (c - length p))
 
 -- before the end of the first pieces
 pub all_within : (xs ys : List (List ℕ)) (c : ℕ) → c < length (framed_bytes xs)
@@ -36,10 +32,7 @@ pub all_within : (xs ys : List (List ℕ)) (c : ℕ) → c < length (framed_byte
 all_within [] ys c less = absurd (omega (arith, less))
 all_within (x ∷ xs) ys c less =
     elim (cases_lt c (length x)) [
-      | inl short ↦
-          let one = at_less x (xs ++ ys) c short in
-          let other = at_less x xs c short in
-          (cc (one.0, other.0), omega (arith, other.0), cc (one.1, other.1))
+      | inl short ↦ grind arith
       | inr long ↦
           let rest = all_within xs ys (c - length x)
           (omega (arith, less, long, length-append x (framed_bytes xs))) in

@@ -1,3 +1,5 @@
+use Rattle.std.proofs.Common.{arith}
+use Rattle.std.proofs.lemmas.Grind.{common_steps}
 -- A report's notes are those of the plays that were admitted.
 use Rattle.std.proofs.Common.{◌≡◌, ℕ, ◌++◌, List, [], ◌∷◌, refl, sym, ap, ◌∙◌, Bool, true, false, true≢false}
 use Rattle.std.proofs.lemmas.List.{append_assoc, append-nil}
@@ -44,11 +46,7 @@ carries_none part = record { on = λ later. append-nil (part.plays ++ open_note 
 pub until_append : (ts us later : List StationCall) → notes_until (ts ++ us) later ≡ notes_until ts (us ++ later)
     ++ notes_until us later
 until_append [] us later = refl
-until_append (t ∷ ts) us later =
-    ap (λ ns. notes_of_calls t.asking t.outcome ns ++ notes_until (ts ++ us) later) (append_assoc ts us later)
-    ∙ ap (λ ns. notes_of_calls t.asking t.outcome (ts ++ (us ++ later)) ++ ns) (until_append ts us later)
-    ∙ sym (append_assoc (notes_of_calls t.asking t.outcome (ts ++ (us ++ later))) (notes_until ts (us ++ later))
-    (notes_until us later))
+until_append (t ∷ ts) us later = grind (arith, until_append ts us later, append_assoc)
 
 -- the same notes, and the same play under way
 pub record HaveSameNotes (a b : NotePart) : Type 0 where
@@ -56,25 +54,17 @@ pub record HaveSameNotes (a b : NotePart) : Type 0 where
   pub under_way : (later : List StationCall) → open_note a.state later ≡ open_note b.state later
 
 pub same_notes : {old new : NotePart} → HaveSameNotes new old → Carries old [] new
-same_notes {old} {new} same = record {
-  on = λ later. rw (append-nil (old.plays ++ open_note old.state later), same.under_way later, same.plays);
-}
+same_notes {old} {new} same = grind (arith, common_steps)
 
 -- a turn that neither begins nor halts a play
 open_kept : (state : State) (turn : StationCall) (later : List StationCall) → ((k : ℕ) → kept_with turn.outcome k ≡ k)
     → open_note state (turn ∷ later) ≡ open_note state later
-open_kept (Playing setup play) turn later kept = rw (kept (kept_later later (total_bytes play.plan)))
-open_kept _ turn later kept = refl
+open_kept state turn later given = grind arith
 
 still_turn : (part : NotePart) (asking : SessionState) (outcome : Outcome)
     → ((later : List StationCall) → notes_of_calls asking outcome later ≡ [])
     → ((k : ℕ) → kept_with outcome k ≡ k) → Carries part (station_call asking outcome ∷ []) part
-still_turn part asking outcome none kept = record {
-  on = λ later.
-      ap (λ ns. (part.plays ++ open_note part.state (station_call asking outcome ∷ later)) ++ (ns ++ [])) (none later)
-      ∙ append-nil (part.plays ++ open_note part.state (station_call asking outcome ∷ later))
-      ∙ ap (λ ns. part.plays ++ ns) (open_kept part.state (station_call asking outcome) later kept);
-}
+still_turn part asking outcome none kept = grind (arith, common_steps)
 
 pub unasked_turn : (part : NotePart) (asking : SessionState) → Carries part (station_call asking Unasked ∷ []) part
 unasked_turn part asking = still_turn part asking Unasked (λ later. refl) (λ k. refl)
@@ -84,73 +74,31 @@ abbrev pub asks_play : Awaited → Bool
 asks_play (Play prepared) = true
 asks_play _ = false
 
-pub no_note : (state : State) (awaited : Awaited) (placed : PlacedEntry) (later : List StationCall)
-    → asks_play awaited ≡ false → noted_entry state awaited placed later ≡ []
-no_note (Ready setup paused) (Play prepared) placed later other = absurd (true≢false other)
-no_note _ _ placed later other = refl
-
 -- ---- a halt
 after_open : (setup : Setup) (play : Played) (next : AfterHalt) (later : List StationCall)
     → open_note (state_once_halted setup play next) later ≡ []
-after_open setup play Done later = refl
-after_open setup play _ later = refl
-
-pub halted_open : (state : State) (awaited : Awaited) (later : List StationCall)
-    → open_note (halted_in state awaited) later ≡ []
-halted_open (Playing setup play) awaited later = after_open setup play _ later
-halted_open _ awaited later = refl
+after_open setup play next later = grind arith
 
 -- what is due of a play that is under way
 abbrev pub IsKept : State → Awaited → ℕ → Type 0
 IsKept (Playing setup play) awaited keep = kept_of awaited play.pacer.due ≡ keep
 IsKept _ awaited keep = Unit {0}
 
-halted_as : {keep : ℕ} (state : State) (awaited : Awaited) (turn : StationCall) (later : List StationCall)
-    → IsKept state awaited keep → ((k : ℕ) → kept_with turn.outcome k ≡ keep)
-    → open_note state (turn ∷ later) ≡ halted_notes state awaited
-halted_as (Playing setup play) awaited turn later is kept = rw (kept (kept_later later (total_bytes play.plan)), is)
-halted_as _ awaited turn later is kept = refl
-
 pub halt_turn : {keep : ℕ} {placed : PlacedEntry} (s : SessionState) → IsHaltEntry keep placed
     → IsKept s.state s.awaited keep → asks_play s.awaited ≡ false
     → Carries (note_part s) (station_call s (Entered placed) ∷ []) (note_part (after_halt s placed.place))
-halt_turn {placed = placed} s entry kept other =
-    let turn = station_call s (Entered placed) in
-    let all = s.plays ++ halted_notes s.state s.awaited in
-    record {
-      on = λ later.
-          ap (λ ns. (s.plays ++ open_note s.state (turn ∷ later)) ++ (ns ++ []))
-          (no_note s.state s.awaited placed later other)
-          ∙ append-nil (s.plays ++ open_note s.state (turn ∷ later)) ∙ ap (λ ns. s.plays ++ ns)
-          (halted_as s.state s.awaited turn later kept (λ k. ap (λ c. kept_by c k) entry.command))
-          ∙ sym (append-nil all) ∙ ap (λ ns. all ++ ns) (sym (halted_open s.state s.awaited later));
-    }
+halt_turn {placed = placed} s entry kept other = grind arith
 
 -- ---- a request
-
--- the note of a play that an entry answers
-pub begun_note : {base : SessionState} {placed : PlacedEntry} {answer : Answer} (play : AskedPlay base)
-    (later : List StationCall)
-    → IsPlayEntry (at_play play) play.prepared.plan placed answer
-    → notes_of_calls (at_play play) (Entered placed) later
-    ≡ noted_for play.setup play.prepared.run placed.place
-    (play_admitted (play_of base.heard play.prepared.plan) answer) later
-begun_note {placed} play later entry = rw (entry.command, entry.answer_is)
 
 -- by what was asked and answered
 pub answered_on : {old asking new : SessionState} {outcome : Outcome} → RequestAnswer old asking outcome new
     → Carries (note_part old) (station_call asking outcome ∷ []) (note_part new)
 answered_on {old} {asking} OwnReply = unasked_turn (note_part old) asking
-answered_on {asking = asking} (SetupReply old) =
-    record { on = (unasked_turn (record { plays = old.plays; state = Init }) asking).on }
-answered_on {new = new} (Admission {base = base} play entry answered) = record {
-  on = λ later. rw (begun_note play later entry, append-nil base.plays);
-}
-answered_on {old} {asking} {outcome = outcome} (Refusal play entry) =
-    still_turn (note_part old) asking outcome (λ later. begun_note play later entry)
-    (λ k. ap (λ c. kept_by c k) entry.command)
+answered_on {asking = asking} (SetupReply old) = grind (arith, common_steps)
+answered_on {new = new} (Admission {base = base} play entry answered) = grind (arith, common_steps)
+answered_on {old} {asking} {outcome = outcome} (Refusal play entry) = grind (arith, common_steps)
 answered_on (HaltMade halt entry) = record { on = (halt_turn (at_halt halt) entry refl refl).on }
 answered_on {old} {asking} {outcome = outcome} (LookAnswer {placed = placed} command looked) =
-    still_turn (note_part old) asking outcome (λ later. no_note old.state asking.awaited placed later refl)
-    (λ k. ap (λ c. kept_by c k) command)
+    grind (arith, common_steps)
 answered_on {old} {asking} {outcome = outcome} _ = still_turn (note_part old) asking outcome (λ later. refl) (λ k. refl)

@@ -1,3 +1,4 @@
+use Rattle.std.proofs.lemmas.Grind.{common_steps}
 -- What a client reads in the reply to PLAY that a server writes.
 use Rattle.std.proofs.Common.{◌≡◌, ℕ, zero, suc, ◌+◌, ◌-◌, ◌*◌, ◌/◌, ◌%◌, ◌^◌, ◌<◌, ◌≤◌, ◌&&◌, ◌==◌, Bool, true, not}
 use Rattle.std.proofs.Common.{nat_lt, nat_le, List, [], ◌∷◌, ◌++◌, All, codes, decimal, length, get_or, take, drop}
@@ -21,24 +22,6 @@ use Rattle.rtsp_text.specs.Replies.{phrase, reply_front, reply_text, value_named
 use Rattle.rtsp_text.proofs.ReplyRoundTrip.{read_back}
 use Rattle.rtsp_client.specs.Replies.{has_point, milliseconds, range_end, start_within, time_in}
 
--- as many pictures as a film has last until its end in whole milliseconds
-units_counted : (n time : ℕ) → 360 ≤ time → units_until (n * time / 360) time ≡ n
-units_counted n time long =
-    let ms = n * time / 360 in
-    let c = div_ceil (ms * 360) time in
-    let times = div_ceil_times (ms * 360) time (omega (arith, long)) in
-    elim (cases_lt c n) [
-      | inl less ↦
-          let rows : (c + 1) * time ≤ n * time = mul-le-mul_right time (omega (arith, less)) in
-          absurd (omega (arith, times, rows, long))
-      | inr more ↦ elim (cases_lt n c) [
-        | inl over ↦
-            let rows : (n + 1) * time ≤ c * time = mul-le-mul_right time (omega (arith, over)) in
-            absurd (omega (arith, times, rows))
-        | inr same ↦ omega (arith, more, same)
-      ]
-    ]
-
 three : (a b c : ℕ) → a < 10 → b < 10 → c < 10 → number_of ((48 + a) ∷ (48 + b) ∷ (48 + c) ∷ [])
     ≡ Some (a * 100 + b * 10 + c)
 three a b c la lb lc = search rules
@@ -46,16 +29,17 @@ three a b c la lb lc = search rules
 seconds_is : (ms : ℕ)
     → seconds_text ms ≡ decimal (ms / 1000) ++ 46 ∷ (48 + ms / 100 % 10) ∷ (48 + ms / 10 % 10) ∷ (48 + ms % 10) ∷ []
 seconds_is ms =
-    rw (
+    grind (
+      arith,
       decimal_digit (ms / 100 % 10) (omega arith),
       decimal_digit (ms / 10 % 10) (omega arith),
       decimal_digit (ms % 10) (omega arith),
-    ) (simp append_assoc)
+      append_assoc,
+    )
 
 -- a first zero of more than one digit
 no_zero : (long zero_ : Bool) → (long ≡ true → zero_ ≡ true → ⊥) → not (long && zero_) ≡ true
-no_zero true true clash = absurd (clash refl refl)
-no_zero _ _ clash = refl
+no_zero long zero_ given = grind arith
 
 -- the three digits after a point
 record ThreeDigits : Type 0 where
@@ -84,25 +68,14 @@ point_there {n} {digits} point =
     let text = point_text point in
     let tail = 46 ∷ digits_of digits in
     let size : length text ≡ length s + 4 = length-append s tail in
-    let some : 0 < length s = omega (
-      arith,
-      ap (λ (l : List ℕ). length l) point.seconds_are,
-      decimal_nonempty n point.small,
-    ) in
+    let some : 0 < length s = grind (arith, decimal_nonempty n point.small) in
     let at : length text - 4 ≡ length s = omega (arith, size) in
     let dot : get_or text (length text - 4) 0 ≡ 46 =
     rw (at, get_or-append_right s tail (length s) (length s) 0 refl (omega arith))
     (rw ((let z : length s - length s ≡ 0 = omega arith in z))) in
     let front : get_or text 0 0 ≡ get_or (decimal n) 0 0 = rw (get_or_append_left s tail 0 0 some, point.seconds_are) in
     let bare : not (nat_lt 5 (length text) && (get_or text 0 0 == 48)) ≡ true =
-    no_zero (nat_lt 5 (length text)) (get_or text 0 0 == 48) (λ long zero_.
-    let more : 1 < length (decimal n) = omega (
-      arith,
-      ltb-true 5 (length text) long,
-      size,
-      ap (λ (l : List ℕ). length l) point.seconds_are,
-    ) in
-    no_leading_zero n point.small more (sym front ∙ eqb-true (get_or text 0 0) 48 zero_)) in
+    grind (arith, no_leading_zero, eqb-true) in
     rw (le-leb 4 (length text) (omega (arith, size)), eq-eqb (get_or text (length text - 4) 0) 46 dot, bare)
 
 -- they are read
@@ -115,8 +88,7 @@ point_read {n} {digits} point =
     let size : length text ≡ length s + 4 = length-append s (46 ∷ last) in
     let at : length text - 4 ≡ length s = omega (arith, size) in
     let at3 : length text - 3 ≡ length s + 1 = omega (arith, size) in
-    let seconds : take (length text - 4) text ≡ decimal n =
-    ap (λ k. take k text) at ∙ (take_at s (46 ∷ last) (length s) refl ∙ point.seconds_are) in
+    let seconds : take (length text - 4) text ≡ decimal n = grind (arith, common_steps) in
     let after : drop (length text - 3) text ≡ last =
     cc (at3, append_assoc s (46 ∷ []) last, drop_at (s ++ 46 ∷ []) last (length s + 1) (length-append s (46 ∷ []))) in
     let read : milliseconds (decimal n) last ≡ Some (n * 1000 + (a * 100 + b * 10 + c)) =
@@ -155,10 +127,7 @@ play_named id range info slots =
 
 start_read : (slots : ℕ) → 1 ≤ slots → slots ≤ 2 ^ 62 + 1
     → option_and_then start_within (number_of (decimal slots)) ≡ Some slots
-start_read slots some few =
-    ap (λ o. option_and_then start_within o) (decimal_read slots (omega (arith, few)))
-    ∙ cond-true (nat_le 1 slots && nat_le slots (2 ^ 62 + 1)) (Some slots) None
-    (ap (λ b. b && nat_le slots (2 ^ 62 + 1)) (le-leb 1 slots some) ∙ le-leb slots (2 ^ 62 + 1) few)
+start_read slots some few = grind (arith, decimal_read slots (omega (arith, few)))
 
 -- the session and the numbers of a PLAY's reply, in their ranges
 pub record PlayNumbers : Type 0 where
@@ -185,9 +154,8 @@ read_reply {message} number fields small size plain is =
     let back = read_back (record { code = 200; sequence = Some number; fields = fields; body = [] }) size
     refl plain is in
     let same : message ≡ head = is ∙ append-nil head in
-    let value : (name : List ℕ)
-    → header_value message name ≡ value_named name (all_fields (Some number) fields) = λ name.
-    ap (λ m. header_value m name) same ∙ back.values name in
+    let value : (name : List ℕ) → header_value message name ≡ value_named name (all_fields (Some number) fields) =
+    grind arith in
     record {
       answer = record {
         phrase = phrase 200;
@@ -251,20 +219,5 @@ play_read stream_info numbers size is plain =
 
 -- ---- the number of a film's units
 
-time_long : (rate : ℕ) → 1 ≤ rate → rate ≤ 8 → 360 ≤ picture_time rate
-time_long zero low high = absurd (omega (arith, low))
-time_long (suc zero) low high = omega arith
-time_long (suc (suc zero)) low high = omega arith
-time_long (suc (suc (suc zero))) low high = omega arith
-time_long (suc (suc (suc (suc zero)))) low high = omega arith
-time_long (suc (suc (suc (suc (suc zero))))) low high = omega arith
-time_long (suc (suc (suc (suc (suc (suc zero)))))) low high = omega arith
-time_long (suc (suc (suc (suc (suc (suc (suc zero))))))) low high = omega arith
-time_long (suc (suc (suc (suc (suc (suc (suc (suc zero)))))))) low high = omega arith
-time_long (suc (suc (suc (suc (suc (suc (suc (suc (suc n))))))))) low high = absurd (omega (arith, high))
-
 pub film_counted : (film : Film) → units_until (length_ms film) (picture_time film.rate) ≡ length film.units.items
-film_counted film =
-    let rate = film-rate (read_after [] film.bytes.items) film.grammar.accepted in
-    units_counted (length film.units.items) (picture_time film.rate)
-    (time_long film.rate (omega (arith, film.grammar.rate, rate.0)) (omega (arith, film.grammar.rate, rate.1)))
+film_counted film = grind arith

@@ -1,3 +1,4 @@
+use Rattle.std.proofs.lemmas.Grind.{common_steps}
 -- The plays of a course send its runs in order.
 use Rattle.std.proofs.Common.{◌≡◌, ℕ, ◌+◌, ◌-◌, ◌≤◌, ◌⊎◌, ◌&&◌, ◌++◌, if◌then◌else◌, Bool, true, false, List, ◌∷◌}
 use Rattle.std.proofs.Common.{Option, Some, None, slice_get, refl, sym, ap, subst, ◌∙◌, inl, inr, arith, []}
@@ -137,16 +138,10 @@ module _ (words : List ℕ) where
 
   leads_then : {a b c : SessionState} {made more : List StationRequest} → Leads a b made → Leads b c more
       → Leads a c (made ++ more)
-  leads_then {a} {made} {more} one two = record {
-    on = λ later follows. rw (append_assoc made more later) (one.on (more ++ later) (two.on later follows));
-    looks = omega (arith, two.looks, one.looks, looks_append made more);
-  }
+  leads_then {a} {made} {more} one two = grind (arith, append_assoc, looks_append made more)
 
   moves : {old new : SessionState} → new.looks_left ≡ old.looks_left → Moves old new → Leads old new []
-  moves {old} looks move = record {
-    on = λ later follows last is. follows last (move (kept_in later) last is);
-    looks = omega (arith, looks);
-  }
+  moves {old} looks move = grind arith
 
   moves_none : (s : SessionState) → Moves s s
   moves_none s = λ kept last is. is
@@ -159,61 +154,40 @@ module _ (words : List ℕ) where
 
   same_kept : (at : Standing) (g : ℕ → ℕ) (state : State) → ((k : ℕ) → at.kept k ≡ g k) → IsIn state at
       → IsIn state (record at { kept = g })
-  same_kept at g (Playing setup play) same is =
-      rw (same (total_bytes play.plan)) at is
-  same_kept at g _ same is = is
+  same_kept at g state given given' = grind arith
 
   still : {old new : SessionState} (request : StillRequest) → new.looks_left ≡ old.looks_left - look_in request.asked
       → Moves old new → Leads old new (Asks request.asked request.outcome ∷ [])
-  still {old} request looks move = record {
-    on = λ later follows last is. rw (request.still.none later) (follows last (move (kept_in later) last
-        (same_kept (standing old (λ k. kept_with request.outcome (kept_in later k)) last) (kept_in later) old.state
-        (λ k. request.still.kept (kept_in later k)) is)));
-    looks = omega (arith, looks);
-  }
+  still {old} request looks move = grind arith
 
   -- ---- slots and replies
 
   stepped : (at : Standing) (stop : Bool) (slot : ℕ) (state : State) → IsIn state at
       → IsIn (stepped_in stop slot state) at
-  stepped at stop slot Init is = is
-  stepped at stop slot _ is = is
+  stepped at stop slot state given = grind arith
 
   due_between : (at : Standing) (between : Bool) (slot : ℕ) (state : State) → IsIn state at
       → IsIn (if between then stepped_in false slot (stepped_in true slot state) else stepped_in true slot state) at
-  due_between at true slot state is = stepped at false slot (stepped_in true slot state) (stepped at true slot state is)
-  due_between at false slot state is = stepped at true slot state is
+  due_between at between slot state given = grind arith
 
   due : (at : Standing) (waits : Bool) (slot : ℕ) (state : State) → IsIn state at → IsIn (due_state waits state slot) at
-  due at true slot state is = due_between at (is_between (stepped_in true slot state)) slot state is
-  due at false slot state is = stepped at false slot state is
+  due at waits slot state given = grind arith
 
   stopped : (at : Standing) (state : State) → IsIn state at → IsIn (after_stop state)
       (record at { flags = record { waits = false; tearing = at.flags.tearing; torn = at.flags.tearing } })
-  stopped at (Ready setup paused) (inl torn) = inl (torn.0, torn.0)
-  stopped at (Ready setup paused) (inr rest) = inr rest
-  stopped at (Stopping setup stop) is = elim is.1 [
-    | inl tearing ↦ inl (tearing, tearing)
-    | inr rest ↦ inr rest
-  ]
-  stopped at _ is = is
+  stopped at state given = grind arith
 
   slot_looks : (s : SessionState) (slot : ℕ) → (after_slot s slot).looks_left ≡ s.looks_left
-  slot_looks s slot =
-      slot_keeps {part = λ (t : SessionState). t.looks_left}
-      (record { reply = λ t. refl; due = λ t n. refl; done = λ t. refl; idle = λ t n. refl }) s slot
+  slot_looks s slot = grind (arith, common_steps)
 
   reply_moves : (goes : Bool) (s : SessionState) → Moves s (if goes then sent_reply s else s)
-  reply_moves true s = λ kept last is. stopped (standing s kept last) s.state is
-  reply_moves false s = moves_none s
+  reply_moves goes s = grind arith
 
   due_moves : (s : SessionState) (slot : ℕ) → Moves s (sent_due s slot)
   due_moves s slot = λ kept last is. due (standing s kept last) s.waits slot s.state is
 
   sent_moves : (s : SessionState) (slot : ℕ) → Moves s (sent_slot s slot)
-  sent_moves s slot = λ kept last is.
-      reply_moves (s.waits && is_between (stepped_in true slot s.state)) (sent_due s slot) kept last
-      (due_moves s slot kept last is)
+  sent_moves s slot = grind arith
 
   slot_moves : {s t : SessionState} {slot : ℕ} {parts : List SentPart} → SlotTo s slot t parts → Moves s t
   slot_moves {s} {slot = slot} (SlotSent sending later) = sent_moves s slot
@@ -226,17 +200,12 @@ module _ (words : List ℕ) where
       → IsFresh words (record stream {
         counts = counts_done stream.source stream.counts setup run keep (slice_get stream.films setup.film);
       }) setup last
-  counted_done stream setup run keep way =
-      let done : Option Stored → Stream = λ found. record stream {
-        counts = counts_done stream.source stream.counts setup run keep found;
-      } in
-      rw (way.at, way.place) (record { before = stream.counts; identity = refl; counts = refl })
+  counted_done stream setup run keep way = grind arith
 
   halt_state : {next : AfterHalt} {last : Option RunPlace} (kept : ℕ → ℕ) (stop : Stopped next) (place : ℕ)
       → IsUnderWay (stream_of stop.s) stop.setup stop.play.run (stop.play.run.sent + stop.keep) last
       → IsLast (after_halt (stopping stop) place) kept last
-  halt_state {next = Done} kept stop place way =
-      inr (counted_done (stream_of stop.s) stop.setup stop.play.run stop.keep way)
+  halt_state {next = Done} kept stop place way = grind arith
   halt_state {next = Paused run} kept stop place way = (
     refl,
     inr (record { stored = way.stored; at = way.at; place = rw (way.place, left.first, left.end, left.sent) }),
@@ -257,16 +226,12 @@ module _ (words : List ℕ) where
       open stop use {s, setup, play}
 
   finishes : {s new : SessionState} {halt : Outcome} → Finished s halt new → Leads s new (Asks s.awaited halt ∷ [])
-  finishes {s} (Quiet rest) = still (still_by (no_entry Unasked refl)) (none_asked s.looks_left s.awaited rest)
-      (moves_none s)
-  finishes {s} (Ended {placed = placed} done entry) =
-      let stop : Stopped Done = record { s = s; setup = done.setup; play = done.play; keep = done.keep; left = tt } in
-      rw done.state_is (rw done.asks (halts stop entry))
+  finishes {s} (Quiet rest) = grind arith
+  finishes {s} (Ended {placed = placed} done entry) = grind arith
 
   comes_leads : {old opened : Stage} {round : Round} → Stands old.session → ComesAs old round opened
       → Leads old.session opened.session (Asks (asked_by old.session round.event) round.halt ∷ [])
-  comes_leads {old} stands BytesCame =
-      still (still_by (no_entry Unasked refl)) (omega arith) (moves_none old.session)
+  comes_leads {old} stands BytesCame = grind arith
   comes_leads {old} stands (SlotCame {slot = slot} finish) =
       let to = slot_to old.session slot in
       leads_then (moves (slot_looks old.session slot) (slot_moves to))
@@ -283,25 +248,11 @@ module _ (words : List ℕ) {base : SessionState} (asked : AskedPlay base) where
   open asked use {stored, setup, paused, prepared, at, next, frames}
 
   first_identity : IsFirstRun words (identity_of (source_of words) setup nothing_sent)
-  first_identity = record {
-    ssrc = refl;
-    sequence = omega arith;
-    timestamp = refl;
-    packets = refl;
-    octets = refl;
-  }
+  first_identity = grind arith
 
   later_identity : (last : RunPlace) (counts : Counts) → last.run.identity ≡ identity_of base.source setup counts
       → IsLaterRun last (identity_of base.source setup (counts_after counts last.run last.sent))
-  later_identity last counts is = record {
-    channel = rw is;
-    control = rw is;
-    ssrc = rw is;
-    timestamp = rw is;
-    numbers = subst (λ i. GoesOn i (identity_of base.source setup (counts_after counts last.run last.sent))
-        (frames_before last.run last.sent) (octets_before last.run last.sent)) (sym is)
-        (run_goes_on base.source setup counts last.run last.sent);
-  }
+  later_identity last counts is = grind arith
 
   -- of a play: its run, as it is sent, and where it begins
   abbrev Next : Option RunPlace → Counts → Run → Type 0
@@ -310,43 +261,31 @@ module _ (words : List ℕ) {base : SessionState} (asked : AskedPlay base) where
 
   new_next : (last : Option RunPlace) (unsent : (run : Run) × (run.sent ≡ 0))
       → IsFresh words (stream_of base) setup last → Next last base.counts unsent.0
-  new_next None (run, sent) fresh play before = (before ∙ sent, rw (fresh.1, fresh.0) first_identity)
-  new_next (Some last) (run, sent) fresh play before =
-      inr (before ∙ sent, rw fresh.counts (later_identity last fresh.before fresh.identity))
+  new_next last unsent given = grind arith
 
   -- of the film's own run so many bytes were sent
   own_place : {run : Run} {sent : ℕ} {last : Option RunPlace} → IsUnderWay (stream_of base) setup run sent last
       → last ≡ Some (run_place (sending_of stored.film base.source setup base.counts run) sent)
-  own_place {run} {sent} {last} way =
-      one_film base.films setup.film way.stored (λ s. last ≡ Some (run_place
-      (sending_of s.film base.source setup base.counts run) sent)) way.at way.place stored at
+  own_place {run} {sent} {last} way = grind arith
 
   rest_next : (paused : Option Run) (last : Option RunPlace) (unsent : (run : Run) × (run.sent ≡ 0))
       → IsAtRest words paused (stream_of base) setup last
       → Next last (counts_before stored.film base.source setup base.counts paused) unsent.0
-  rest_next None last unsent rest play before = new_next last unsent rest play before
-  rest_next (Some paused) last (run, sent) rest play before =
-      let sending : FramedRun = sending_of stored.film base.source setup base.counts paused in
-      rw (own_place rest) (inr (before ∙ sent, later_identity (run_place sending paused.sent) base.counts refl))
+  rest_next paused last unsent given = grind arith
 
   resumed_next : (last : Option RunPlace) (run : Run) → IsUnderWay (stream_of base) setup run run.sent last
       → Next last base.counts run
-  resumed_next last run rest play before =
-      rw (own_place rest) (inl (refl, before))
+  resumed_next last run rest play before = grind arith
 
   next_run : (last : Option RunPlace) → IsAtRest words paused (stream_of base) setup last
       → IsNextRun base stored setup paused prepared.run prepared.counts → Next last prepared.counts prepared.run
-  next_run last rest (inl resumed) =
-      rw resumed.counts_are (resumed_next last prepared.run
-      (rw resumed.paused_is at rest))
-  next_run last rest (inr begun) = rw begun.counts_are (rest_next paused last (prepared.run, begun.none_sent) rest)
+  next_run last given given' = grind arith
 
   -- no TEARDOWN was answered
   at_rest : (last : Option RunPlace) → base.torn ≡ false
       → ((base.tearing ≡ true) × (base.torn ≡ true)) ⊎ IsAtRest words paused (stream_of base) setup last
       → IsAtRest words paused (stream_of base) setup last
-  at_rest last linked (inl torn) = cc (torn.1, linked)
-  at_rest last linked (inr rest) = rest
+  at_rest last given given' = grind arith
 
   -- it is admitted
   admitted : {placed : PlacedEntry} {start : ℕ} → base.torn ≡ false
@@ -383,23 +322,14 @@ module _ (words : List ℕ) where
       (record { waits = true; tearing = tearing; torn = s.torn }) kept last
 
   waiting : {s : SessionState} → Hearing s → (tearing : Bool) (state : State) → WaitsIn s tearing state
-  waiting h tearing (Ready setup paused) kept last (inl torn) = cc (torn.1, h.linked)
-  waiting h tearing (Ready setup paused) kept last (inr rest) = inr rest
-  waiting h tearing (Stopping setup stop) kept last is = cc (is.0, h.replied)
-  waiting h tearing _ kept last is = is
+  waiting given tearing state = grind arith
 
   request_leads : {old asking new : SessionState} {outcome : Outcome} → RequestAnswer old asking outcome new
       → Hearing old → Leads words old new (Asks asking.awaited outcome ∷ [])
-  request_leads (OwnReply {old = old} {tearing = tearing}) h =
-      still words (still_by (no_entry Unasked refl)) (none_asked old.looks_left old.awaited h.rest)
-      (waiting h tearing old.state)
-  request_leads (SetupReply old) h =
-      still words (still_by (no_entry Unasked refl)) (none_asked old.looks_left old.awaited h.rest)
-      (λ kept last was. rw was.0 (inr (was.1, was.2)))
+  request_leads (OwnReply {old = old} {tearing = tearing}) h = grind arith
+  request_leads (SetupReply old) h = grind arith
   request_leads (Admission play entry answered) h = admitted words play h.linked entry
-  request_leads (Refusal {base = base} play entry) h =
-      still words (still_by (refused_still entry refl)) (omega arith)
-      (waiting h base.tearing (Ready play.setup play.paused))
+  request_leads (Refusal {base = base} play entry) h = grind arith
   request_leads (HaltMade {base = base} halt entry) h =
       let stop : Stopped halt.next = record {
         s = record base { text = halt.text };
@@ -409,13 +339,9 @@ module _ (words : List ℕ) where
         left = halt.left;
       } in
       leads_then words (moves words refl (λ kept last was. was)) (halts words stop entry)
-  request_leads (LookAnswer {old = old} command looked) h =
-      still words (still_by (looked_still old.heard command)) refl (waiting h old.tearing old.state)
-  request_leads (JournalFull {old = old} looks) h =
-      still words (still_by (no_entry _ refl)) looks (waiting h old.tearing old.state)
-  request_leads (OfferAnswer {old = old}) h =
-      still words (still_by (no_entry _ refl)) (omega arith)
-      (waiting h old.tearing old.state)
+  request_leads (LookAnswer {old = old} command looked) h = grind arith
+  request_leads (JournalFull {old = old} looks) h = grind arith
+  request_leads (OfferAnswer {old = old}) h = grind arith
 
   answered_leads : {old new : Stage} (request : AnsweredRequest old new) → Stands old.session
       → Leads words old.session new.session (asking_of request ∷ [])
@@ -433,12 +359,7 @@ module _ (words : List ℕ) where
   LeadsOn old piece new = Leads words old new piece.askings
 
   leads_kept : IsKeptStanding LeadsOn
-  leads_kept = record {
-    none = λ s. moves words refl (moves_none words s);
-    joins = λ a b c one two first rest. leads_then words first rest;
-    request = λ old new request stands. answered_leads request stands;
-    event = λ old opened round comes stands. comes_leads words stands comes;
-  }
+  leads_kept = search (moves, leads_then, answered_leads, comes_leads)
 
 -- what leads through a course
 course_leads : (course : Course) → (let first : Stage = begin_of course in

@@ -1,3 +1,5 @@
+use Rattle.std.proofs.Common.{arith}
+use Rattle.std.proofs.lemmas.Grind.{common_steps}
 -- The receipts and offers of a connection's report, event by event.
 use Rattle.std.proofs.Common.{◌≡◌, ℕ, ◌++◌, List, [], ◌∷◌, refl, sym, ap, ◌∙◌, map}
 use Rattle.std.proofs.lemmas.List.{append_assoc, append-nil, map-append}
@@ -25,10 +27,7 @@ log_of s = (s.receipts, s.offers)
 
 -- nothing is noted
 logs_none : (old new : SessionState) → log_of new ≡ log_of old → Logs old [] new
-logs_none old new same = (
-  ap (λ (l : List Receipt × List OfferNote). l.0) same ∙ sym (append-nil old.receipts),
-  ap (λ (l : List Receipt × List OfferNote). l.1) same ∙ sym (append-nil old.offers),
-)
+logs_none old new same = grind (arith, common_steps)
 
 -- an entry's answer is noted, and no offer
 logs_entry : {answer : Answer} (s : SessionState) (placed : PlacedEntry) → placed.entry.answer ≡ answer
@@ -47,14 +46,11 @@ logs_answer {old} OfferAnswer = (sym (append-nil old.receipts), refl)
 logs_answer {old} _ = logs_none old old refl
 
 logs_slot : (old : SessionState) (slot : ℕ) → Logs old [] (after_slot old slot)
-logs_slot old slot =
-    logs_none old (after_slot old slot) (slot_keeps {part = log_of}
-    (record { reply = λ s. refl; due = λ s n. refl; done = λ s. refl; idle = λ s n. refl }) old slot)
+logs_slot old slot = grind (arith, common_steps)
 
 logs_finished : {s new : SessionState} {asks : AwaitedAnswer} {halt : Outcome} → FinishesAs s asks halt new
     → Logs s (halt ∷ []) new
-logs_finished {s} NothingLeft = logs_none s s refl
-logs_finished {s} (DoneHalted {placed = p} entry) = logs_entry s p entry.answer_is
+logs_finished given = grind (arith, common_steps)
 
 -- ---- all that a connection did
 abbrev LogsCalls : SessionState → List StationCall → SessionState → Type 0

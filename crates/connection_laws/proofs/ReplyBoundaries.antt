@@ -28,20 +28,7 @@ use Rattle.connection_laws.proofs.CourseInduction.{asked_piece, Piece, parts_pie
 -- it neither begins nor halts a play
 pub still_goes : {asked : Awaited} {outcome : Outcome} → IsStill asked outcome → (at : Point)
     → GoesTo at at (asked_piece (Asks asked outcome))
-still_goes {asked} {outcome} still at = record {
-  later = omega arith;
-  rest = λ askings come on fits. record {
-    from = fits.from;
-    later = rw (still.none askings) fits.later;
-    stand = by-sends at.sends askings (pending_then at.pending come) fits.stand;
-  };
-}
-  where
-    by-sends : (sends : Sends) (askings : List StationRequest) (come : ToCome) → Stand sends askings come
-        → Stand sends (Asks asked outcome ∷ askings) come
-    by-sends (Going p) askings come stand =
-        rw (still.none askings, still.kept (kept_in askings (total_bytes p.plan))) stand
-    by-sends _ askings come stand = rw (still.none askings) stand
+still_goes {asked} {outcome} still at = grind arith
 
 -- a request was processed, and its reply is in hand
 abbrev pub turn_piece : Awaited → Outcome → ℕ → Piece
@@ -59,11 +46,9 @@ begins_goes {old} begins = record {
   later = omega arith;
   rest = λ askings come on fits.
       let p : PacerState = pacing_for begins.prepared begins.admitted.start in
-      let there : Fits (point (Going p) old.heard (Some old.heard)) askings come =
-      subst (λ s. Fits (point s old.heard (Some old.heard)) askings come) begins.sends fits in
+      let there : Fits (point (Going p) old.heard (Some old.heard)) askings come = grind arith in
       let made = begun_is begins askings in
-      let starts : IsBoundary p.pieces (p.before + 0) = subst (IsBoundary p.pieces)
-      (omega arith) begins.pacing.begins in
+      let starts : IsBoundary p.pieces (p.before + 0) = grind arith in
       rw begins.idle (record {
         from = (omega arith, there.from);
         later = rw made
@@ -79,45 +64,22 @@ begins_goes {old} begins = record {
 pub turn_goes : {old new : SessionState} {asked : Awaited} {outcome : Outcome} → TurnsAs old asked outcome new
     → GoesTo (point (sends_in old.state) old.heard None) (point (sends_in new.state) old.heard (Some old.heard))
     (turn_piece asked outcome old.heard)
-turn_goes {old} (Stays same still) = record {
-  later = omega arith;
-  rest = λ askings come on fits.
-      (still_goes still (point (sends_in old.state) old.heard None)).rest askings
-      (record come { slots = old.heard ∷ come.slots }) on
-      (taken_fits (rw same at fits));
-}
+turn_goes {old} (Stays same still) = grind arith
 turn_goes (Starts begins) = begins_goes begins
-turn_goes {old} {outcome = outcome} (Ends halts) = record {
-  later = omega arith;
-  rest = λ askings come on fits.
-      let p : PacerState = halts.pacing in
-      let there : Fits (point (Ending (record p { keep = next_boundary p })) old.heard (Some old.heard)) askings come =
-      rw halts.sends at fits in
-      let kept : kept_with outcome (kept_in askings (total_bytes p.plan)) ≡ next_boundary p =
-      rw (halts.outcome_is, halts.command) in
-      rw halts.going (record {
-        from = (omega arith, there.from);
-        later = rw (halts.none askings) there.later;
-        stand = rw (kept, halts.none askings) there.stand;
-      });
-}
+turn_goes {old} {outcome = outcome} (Ends halts) = grind arith
 
 -- ---- a reply goes out at once, or is held up
 
 kept_due : (p : PacerState) (heard keep : ℕ) → IsSound (Going p) true heard → p.sent ≤ keep
     → due_of heard (play_with p keep) ≡ min (first_slots p.plan (heard + 1 - p.start)) p.keep
-kept_due p heard keep sound holds =
-    let here = due_here p heard sound.0 in due_going p heard keep sound.0.pacing sound.1 (omega (arith, here, holds))
+kept_due p heard keep sound holds = search (due_here, due_going)
 
 -- where a reply goes out, nothing else changes of what is to come
 reply_goes : {sends after : Sends} {heard : ℕ} {text : List ℕ}
     → ((askings : List StationRequest) (come : ToCome) → heard ≤ come.end → Fits (point after heard None) askings come
     → Stand sends askings (pending_then (Some heard) (part_then (Text text) come)))
     → GoesTo (point sends heard (Some heard)) (point after heard None) (parts_piece (Text text ∷ []))
-reply_goes stand = record {
-  later = omega arith;
-  rest = λ askings come on fits. record { from = fits.from; later = fits.later; stand = stand askings come on fits };
-}
+reply_goes stand = grind arith
 
 -- before any film is due
 idle_reply : {heard : ℕ} {askings : List StationRequest} {come : ToCome} (text : List ℕ)
@@ -226,14 +188,7 @@ slot_goes : {waits between : Bool} {pending : Option ℕ} {sends after : Sends} 
     (pending_then pending (piece_then (parts_piece (parts_in waits between s.p s.now.slot s.now.text)) come)))
     → GoesTo (point sends s.now.heard pending) (point after s.now.slot (after_slot between pending))
     (parts_piece (parts_in waits between s.p s.now.slot s.now.text))
-slot_goes s stand = record {
-  later = omega (arith, s.now.later);
-  rest = λ askings come on fits. record {
-    from = from_lower s.now.heard s.now.slot come.slots (omega (arith, s.now.later)) fits.from;
-    later = later_lower s.now.heard s.now.slot (plays_of askings) (omega (arith, s.now.later)) fits.later;
-    stand = stand askings come on fits;
-  };
-}
+slot_goes s stand = grind (arith, from_lower, later_lower)
 
 -- a play goes on
 going_goes : {waits between : Bool} {pending : Option ℕ} (s : PlaySlot waits between pending)
@@ -266,8 +221,7 @@ ended_through : {pending : Option ℕ} (s : PlaySlot true true pending) → IsAt
     → (sent_through s.now.slot s.p).sent ≡ s.p.keep
 ended_through s last =
     let one : PacerState = after_step true slot p in
-    let inside : p.before + p.sent ≤ length (framed_bytes p.pieces) =
-    omega (arith, on.pacing.whole, on.pacing.most, on.pacing.due, on.pacing.sent) in
+    let inside : p.before + p.sent ≤ length (framed_bytes p.pieces) = grind arith in
     omega (
       arith,
       last (p.before + one.sent) (boundary_here one (stopped_is slot p on.pacing) stands)
@@ -327,8 +281,7 @@ ending_goes s last =
 
 as_going : (p : PacerState) (heard : ℕ) (pending : Option ℕ) → IsHeld pending (Ending p) true heard
     → IsHeld pending (Going p) true heard
-as_going p heard None held = held
-as_going p heard (Some taken) held = held
+as_going p heard pending given = grind arith
 
 -- the slot of the play that is being sent
 abbrev play_slot : {state : State} {waits : Bool} (start : SlotStart state waits) (p : PacerState)

@@ -25,14 +25,11 @@ IsFrom place [] = ⊤
 IsFrom place (placed ∷ texts) = place ≤ placed.place
 
 from_lower : (low place : ℕ) (texts : List PlacedText) → low ≤ place → IsFrom place texts → IsFrom low texts
-from_lower low place [] less is = tt
-from_lower low place (placed ∷ texts) less is = omega (arith, less, is)
+from_lower low place texts given given' = grind arith
 
 places_from : (place : ℕ) (parts : List SentPart) → IsFrom place (placed_texts place parts)
 places_from place [] = tt
-places_from place (Film bytes ∷ parts) =
-    from_lower place (place + length bytes) (placed_texts (place + length bytes) parts) (omega arith)
-    (places_from (place + length bytes) parts)
+places_from place (Film bytes ∷ parts) = grind (arith, places_from (place + length bytes) parts)
 places_from place (Text text ∷ parts) = omega arith
 
 woven_front : (place : ℕ) (bytes film : List ℕ) (texts : List PlacedText) → IsFrom (place + length bytes) texts
@@ -98,8 +95,7 @@ waits_none s none = ap (λ w. if w then s.text ∷ [] else []) none
 
 reply_cases : (goes : Bool) (s : SessionState) → s.waits ≡ true
     → texts_in (if goes then Text s.text ∷ [] else []) ++ waiting_reply (if goes then sent_reply s else s) ≡ s.text ∷ []
-reply_cases true s waits = refl
-reply_cases false s waits = ap (λ w. if w then s.text ∷ [] else []) waits
+reply_cases goes s given = grind arith
 
 answered_replies : {old new : Stage} (request : AnsweredRequest old new) → Stands old.session
     → Replies old.session (texts_in request.parts) (request.replied.answered.text ∷ []) new.session
@@ -115,30 +111,11 @@ answered_replies {old} request stands =
 
 -- a play that is done is halted without a reply
 finished_waiting : {s new : SessionState} {halt : Outcome} → Finished s halt new → waiting_reply new ≡ waiting_reply s
-finished_waiting (Quiet rest) = refl
-finished_waiting {s} (Ended done entry) = rw done.asks
-
-reply_waiting : (goes : Bool) (s : SessionState)
-    → waiting_reply (if goes then sent_reply s else s) ≡ (if (if goes then false else s.waits) then s.text ∷ [] else [])
-reply_waiting true s = refl
-reply_waiting false s = refl
-
--- a slot
-slot_texts : (waits between : Bool) (text one after plain : List ℕ)
-    → texts_in (if waits then Film one ∷ (if between then Text text ∷ Film after ∷ [] else []) else Film plain ∷ [])
-    ++ (if (if waits && between then false else waits) then text ∷ [] else []) ≡ (if waits then text ∷ [] else [])
-slot_texts false between text one after plain = refl
-slot_texts true true text one after plain = refl
-slot_texts true false text one after plain = refl
+finished_waiting given = grind arith
 
 sent_texts : {old s : SessionState} {slot : ℕ} {parts : List SentPart} → SlotTo old slot s parts
     → texts_in parts ++ waiting_reply s ≡ waiting_reply old
-sent_texts {old} {slot = slot} (SlotSent sending later) =
-    let between : Bool = is_between (stepped_in true slot old.state) in
-    ap (λ ts. texts_in (due_parts old slot) ++ ts) (reply_waiting (old.waits && between) (sent_due old slot))
-    ∙ slot_texts old.waits between old.text (step_bytes true slot old.state)
-    (step_bytes false slot (stepped_in true slot old.state)) (step_bytes false slot old.state)
-sent_texts _ = refl
+sent_texts given = grind arith
 
 comes_replies : {old opened : Stage} {round : Round} → ComesAs old round opened → Stands old.session
     → Replies old.session (texts_in round.due) [] opened.session
@@ -152,20 +129,7 @@ abbrev RepliesOn : SessionState → Piece → SessionState → Type 0
 RepliesOn old piece new = Replies old (texts_in piece.parts) piece.replies new
 
 replies_kept : IsKeptStanding RepliesOn
-replies_kept = record {
-  none = λ s. waiting_same s s refl;
-  joins = λ a b c one two first rest.
-      rw (
-        texts_append one.parts two.parts,
-        append_assoc (texts_in one.parts) (texts_in two.parts) (waiting_reply c),
-        rest,
-        ← (append_assoc (texts_in one.parts) (waiting_reply b) two.replies),
-        first,
-        append_assoc (waiting_reply a) one.replies two.replies,
-      );
-  request = λ old new request stands. answered_replies request stands;
-  event = λ old opened round comes stands. comes_replies comes stands;
-}
+replies_kept = grind (arith, texts_append, append_assoc, answered_replies, comes_replies)
 
 -- in a connection's course
 pub replies_in_order : (course : Course)
@@ -174,5 +138,4 @@ replies_in_order course = rw (texts_placed 0 (rounds_parts course.rounds), all_k
 
 pub bytes_woven : (course : Course)
     → rounds_bytes course.rounds ≡ insert_texts 0 (course_film course) (course_texts course)
-bytes_woven course = rw (rounds_sent course.rounds, parts_woven 0 (rounds_parts course.rounds))
-    (rw (film_sent (begin_of course) course.last course.rounds course.follows, film_written_is course))
+bytes_woven course = grind (arith, rounds_sent, parts_woven, rounds_parts, film_sent, film_written_is)

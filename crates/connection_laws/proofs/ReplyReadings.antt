@@ -39,17 +39,13 @@ not_blank c is = grind arith
 
 no_leading : (text : List ℕ) → IsPrinted text → without_leading_blanks text ≡ text
 no_leading [] prints = refl
-no_leading (c ∷ text) prints =
-    cond-false (is_blank c) (without_leading_blanks text) (c ∷ text)
-    (not_blank c (and_parts (is_url_byte c) (list_all is_url_byte text) prints).0)
+no_leading (c ∷ text) prints = grind arith
 
 pub bare_printed : (text : List ℕ) → IsPrinted text → without_blanks text ≡ text
-bare_printed text prints =
-    rw (no_leading text prints, no_leading (reverse text) (all-reverse is_url_byte text prints), reverse-reverse text)
+bare_printed text prints = search (no_leading, all-reverse, reverse-reverse)
 
 pub plain_field : {value : List ℕ} (name : List ℕ) → is_token name ≡ true → IsPrinted value → IsPlain (field name value)
-plain_field {value} name token prints =
-    record { name_is = token; one_line = one_line-url value prints; bare = bare_printed value prints }
+plain_field {value} name token prints = search (one_line-url, bare_printed)
 
 -- ---- numbers
 
@@ -69,27 +65,12 @@ printed_parts [] are = refl
 printed_parts (part ∷ parts) are = all-append is_url_byte part (joined_parts parts) are.0 (printed_parts parts are.1)
 
 pub printed_seconds : (ms : ℕ) → ms < 2 ^ 64 → IsPrinted (seconds_text ms)
-printed_seconds ms small =
-    let s = decimal (ms / 1000) in
-    let one = decimal (ms / 100 % 10) in
-    let two = decimal (ms / 10 % 10) in
-    let three = decimal (ms % 10) in
-    let point : IsPrinted (s ++ codes ".") =
-    all-append is_url_byte s (codes ".") (printed_decimal (ms / 1000) (omega (arith, small))) refl in
-    let first = all-append is_url_byte (s ++ codes ".") one point (printed_decimal (ms / 100 % 10) (omega arith)) in
-    let second = all-append is_url_byte ((s ++ codes ".") ++ one) two first
-    (printed_decimal (ms / 10 % 10) (omega arith)) in
-    all-append is_url_byte (((s ++ codes ".") ++ one) ++ two) three second (printed_decimal (ms % 10) (omega arith))
+printed_seconds ms small = grind (arith, all-append, printed_decimal)
 
 -- ---- hexadecimal digits
 
 digit_printed : (k : ℕ) → k < 16 → is_url_byte (get_or lower_digits k 0) ≡ true
-digit_printed k inside =
-    elim (cases_Bool (is_url_byte (get_or lower_digits k 0))) [
-      | inl good ↦ good
-      | inr bad ↦
-          absurd (let wrong : true ≡ false = sym refl ∙ list_all_at is_url_byte lower_digits k 0 inside bad in cc)
-    ]
+digit_printed k inside = grind arith
 
 abbrev AreBytes : List ℕ → Type 0
 AreBytes [] = ⊤
@@ -109,11 +90,7 @@ pub printed_w32 : (n : ℕ) → IsPrinted (encode_lower (to_be_bytes w32 n))
 printed_w32 n = printed_hex (to_be_bytes w32 n) (omega arith, (omega arith, (omega arith, (omega arith, tt))))
 
 pub printed_w64 : (n : ℕ) → IsPrinted (encode_lower (to_be_bytes w64 n))
-printed_w64 n =
-    printed_hex (to_be_bytes w64 n) (
-      omega arith,
-      (omega arith, (omega arith, (omega arith, (omega arith, (omega arith, (omega arith, (omega arith, tt))))))),
-    )
+printed_w64 n = grind (arith, printed_hex)
 
 -- ---- a reply of 200 without a body
 
@@ -136,14 +113,12 @@ value_byte c is = grind arith
 id_usable : (id : List ℕ) → IsPrinted id → list_all is_value_byte (session_id id) ≡ true
 id_usable id prints =
     let front = before_first (λ byte. byte == 59) id in
-    let printed : IsPrinted front =
-    all-take is_url_byte (position_or_len (λ byte. byte == 59) id) id prints in
+    let printed : IsPrinted front = search all-take in
     rw (bare_printed front printed) (all_of is_url_byte is_value_byte value_byte front printed)
 
 session_named : {id : List ℕ} (message : List ℕ) → header_value message (codes "Session") ≡ Some id → IsPrinted id
     → is_some (setup_session message) ≡ true
-session_named {id} message value prints =
-    rw (value, cond-true (list_all is_value_byte (session_id id)) (Some (session_id id)) None (id_usable id prints))
+session_named {id} message value prints = grind (arith, id_usable id prints)
 
 -- ---- SETUP
 

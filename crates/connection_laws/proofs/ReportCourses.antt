@@ -1,3 +1,4 @@
+use Rattle.std.proofs.Common.{arith}
 -- A connection's report has a course.
 use Rattle.std.proofs.Common.{ℕ, ◌++◌, List, [], length, refl}
 use Rattle.std.proofs.lemmas.List.{append-nil}
@@ -18,15 +19,11 @@ record LeadsTo (old : Stage) (rounds : List Round) : Type 0 where
   follows : IsCourseBetween old rounds last
 
 no_more : (old mid : Stage) (rounds : List Round) → RunsAll old rounds mid → LeadsTo old (rounds ++ [])
-no_more old mid rounds runs = record {
-  last = mid;
-  follows = rw (append-nil rounds) (follows_all old mid rounds runs);
-}
+no_more old mid rounds runs = search (append-nil, follows_all)
 
 up_to_end : (old mid : Stage) (rounds : List Round) (ending : Ending) (ended : CourseEnd mid ending)
     → RunsAll old rounds mid → LeadsTo old (rounds ++ ending_rounds ending)
-up_to_end old mid rounds (AtElement round) ended runs =
-    record { last = ended.new; follows = follows_last old rounds runs ended.ends.0 }
+up_to_end old mid rounds (AtElement round) ended runs = grind (arith, follows_last old rounds runs ended.ends.0)
 up_to_end old mid rounds (InReply round message outcome front) ended runs =
     record { last = ended.ends.1.mid; follows = follows_last old rounds runs ended.ends.1.runs }
 up_to_end old mid rounds _ ended runs = no_more old mid rounds runs
@@ -51,13 +48,4 @@ pub served_done : {films : List Stored} {settings : Settings} {words : List ℕ}
     {old_told new_told : Option (List IoEvent)} {old new : SeatState} {report : ConnReport}
     (served : HasServedFrom (new_session_state films settings words) old_told new_told old new report)
     → HasDone films settings words (activity_of films settings words old_told new_told old new report served) report
-served_done served = record {
-  mid = served.course.mid;
-  runs = served.course.runs;
-  last = served.ended.stage;
-  ends = served.course.ends;
-  few = served.course.few;
-  closed = served.closed;
-  closes = served.closes.closes;
-  report_is = served.report_is;
-}
+served_done served = grind arith

@@ -130,9 +130,7 @@ answer_of {old} {new = new} {outcome = o} (AsksOffer plan offers sequence ask_is
 
 pub request_answer : {old new : SessionState} {message : List ℕ} {outcome : Outcome}
     (heard : HasHeard old message outcome new) → RequestAnswer old heard.asking outcome new
-request_answer {outcome = outcome} heard =
-    answer_of (runs_as heard.hears) heard.answered
-    (answers_as heard.ask outcome heard.answered)
+request_answer {outcome = outcome} heard = search (answer_of, runs_as, answers_as)
 
 -- what of a film is being sent: nothing, a play, or the rest of one that was halted
 pub data Sends : Type 0 where
@@ -204,8 +202,7 @@ pub data TurnsAs (old : SessionState) (asked : Awaited) (outcome : Outcome) (new
 
 -- an answer that is no entry
 pub no_entry : {asked : Awaited} (outcome : Outcome) → entry_in outcome ≡ [] → IsStill asked outcome
-no_entry (Entered placed) none = cc
-no_entry _ none = record { none = λ later. refl; kept = λ later. refl; untold = λ made. refl }
+no_entry outcome given = grind arith
 
 -- a play that isn't admitted
 abbrev pub is_refused : Answer → Bool
@@ -214,27 +211,16 @@ is_refused _ = false
 
 pub refused_still : {old : SessionState} {prepared : Prepared} {placed : PlacedEntry} {answer : Answer}
     → IsPlayEntry old prepared.plan placed answer → is_refused answer ≡ true → IsStill (Play prepared) (Entered placed)
-refused_still {old} {prepared} {placed} {answer = Overflow slot booked asked} entry refused = record {
-  none = λ later. ap (λ a. plays_admitted (Play prepared) a later) entry.answer_is;
-  kept = λ later. ap (λ c. kept_by c later) entry.command;
-  untold = λ made. ap (λ c. booked_by (play_admitted c placed.entry.answer) made) entry.command
-      ∙ ap (λ a. booked_by (play_admitted (play_of old.heard prepared.plan) a) made) entry.answer_is;
-}
-refused_still entry refused = absurd (true≢false (sym refused))
+refused_still given given' = grind arith
 
 pub looked_still : {sequence : ℕ} {placed : PlacedEntry} (slot : ℕ) → placed.entry.command ≡ look_at slot
     → IsStill (Look sequence) (Entered placed)
-looked_still {placed = placed} slot command = record {
-  none = λ later. refl;
-  kept = λ later. ap (λ c. kept_by c later) command;
-  untold = λ made. ap (λ c. booked_by (play_admitted c placed.entry.answer) made) command;
-}
+looked_still {placed = placed} slot command = grind arith
 
 -- a halt's answer
 stopped_sends : (setup : Setup) (play : Played) (next : AfterHalt) → is_answered next ≡ true
     → sends_in (state_once_halted setup play next) ≡ Ending play.pacer
-stopped_sends setup play Done told = cc
-stopped_sends setup play _ told = refl
+stopped_sends setup play next given = grind arith
 
 -- a play that begins is this one
 pub begun_is : {old new : SessionState} {asked : Awaited} {outcome : Outcome} (begins : Begins old asked outcome new)
@@ -245,20 +231,7 @@ begun_is begins askings = rw (begins.outcome_is, begins.asked_is, begins.admitte
 -- a halt that is answered leaves the rest of the play
 ends_turn : {base : SessionState} {placed : PlacedEntry} (halt : AskedHalt base) → IsHaltEntry halt.keep placed
     → TurnsAs (before_halt halt) (Halt halt.keep halt.next) (Entered placed) (after_halt (at_halt halt) placed.place)
-ends_turn {placed} halt entry =
-    Ends (record {
-      pacing = play.pacer;
-      placed = placed;
-      number = entry.number;
-      going = refl;
-      outcome_is = refl;
-      command = cc (entry.command, keep_is);
-      answer = entry.answer_is;
-      none = λ later. refl;
-      sends = cc (stopped_sends setup (record play { pacer = record play.pacer { keep = keep } }) next told, keep_is);
-    })
-  where
-    open halt use {setup, play, keep, next, told, keep_is}
+ends_turn {placed} halt entry = grind arith
 
 -- by what was asked and answered
 turn_of : {old asking new : SessionState} {outcome : Outcome} → RequestAnswer old asking outcome new
@@ -267,13 +240,7 @@ turn_of (Admission {placed = placed} {start = start} play entry answered) =
     Starts (record {
       prepared = play.prepared;
       placed = placed;
-      admitted = record {
-        start = start;
-        answer = entry.answer_is;
-        command = entry.command;
-        later = answered.0;
-        small = answered.3;
-      };
+      admitted = grind arith;
       idle = refl;
       asked_is = refl;
       outcome_is = refl;

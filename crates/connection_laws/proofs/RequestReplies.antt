@@ -83,9 +83,7 @@ play_session b = (play-asked b.wish b.session b.wished b.port b.session_is).valu
 whole_front : (stored : Stored) (run : Run) (front : ℕ → ℕ → List ℕ) → run ≡ whole_run stored
     → front (milliseconds_at stored.film run.from_unit) (milliseconds_at stored.film run.end_unit)
     ≡ front 0 (length_ms stored.film)
-whole_front stored run front is =
-    let first : milliseconds_at stored.film run.from_unit ≡ 0 =
-    ap (λ (r : Run). milliseconds_at stored.film r.from_unit) is ∙ omega arith in cc (first, is)
+whole_front stored run front is = grind arith
 
 -- ---- TEARDOWN
 
@@ -102,17 +100,10 @@ record IsTeardownHead (b : Beginning) (head : List ℕ) : Type 0 where
 
 teardown_head : (b : Beginning) → IsTeardownHead b (request_head (teardown_parts b.wish b.session))
 unfolding value_named
-teardown_head b =
-    let values = (teardown-asked b.wish b.session b.wished b.port b.session_is).values in
-    record {
-      require = values (codes "Require");
-      proxy = values (codes "Proxy-Require");
-      session = values (codes "Session");
-    }
+teardown_head b = grind (arith, teardown-asked b.wish b.session b.wished b.port b.session_is)
 
 has_one : {setup : Setup} (state : State) → setup_in state ≡ Some setup → has_session_in state ≡ true
-has_one Init is = cc
-has_one _ is = refl
+has_one state given = grind arith
 
 pub setup_replied : (b : Beginning) {old new : Stage} (request : AnsweredRequest old new)
     → request.message ≡ setup_text b.wish → AnswersSetup old.session request.replied.heard.asking

@@ -33,13 +33,7 @@ use Rattle.connection_laws.proofs.ClientSetups.{Beginning}
 use Rattle.connection_laws.proofs.Lists.{each_front, each_weaker}
 
 first_boundary : (play : FilmPlay) → play.before ≡ 0 → IsBoundaryIn (play ∷ []) 0
-first_boundary play before =
-    let starts : IsBoundary play.pieces (play.before + 0) = record {
-      number = 0;
-      among = omega arith;
-      place_is = omega (arith, before);
-    } in
-    inl (omega arith, starts)
+first_boundary play before = grind arith
 
 none_yet : (slot : ℕ) (play : FilmPlay) → slot < play.start → due_by slot (play ∷ []) ≡ 0
 none_yet slot play late = none_due slot (play ∷ []) (late, tt)
@@ -47,14 +41,11 @@ none_yet slot play late = none_due slot (play ∷ []) (late, tt)
 -- a reply before the play is sent, at the film's first place
 sent_first : {play : FilmPlay} {now slot : ℕ} {placed : PlacedText} → play.before ≡ 0 → slot < play.start
     → IsSentAt now (play ∷ []) slot placed → placed ≡ placed_text 0 placed.text
-sent_first {play} {now} {slot} {placed} before late sent =
-    ap (λ n. record placed { place = n })
-    (omega (arith, sent.next.least 0 (first_boundary play before) (omega (arith, none_yet slot play late))))
+sent_first {play} {now} {slot} {placed} before late sent = grind arith
 
 never_unsent : {slot : ℕ} (play : FilmPlay) (now : ℕ) → play.before ≡ 0 → slot < play.start
     → IsUnsentAt now (play ∷ []) slot → ⊥
-never_unsent {slot} play now before late unsent =
-    omega (arith, unsent 0 (first_boundary play before) (omega (arith, none_yet slot play late)))
+never_unsent {slot} play now before late unsent = grind arith
 
 -- replies to requests that were processed once the film was due
 record AreOnceDue (play : FilmPlay) (now : ℕ) (slots : List ℕ) (texts : List PlacedText) : Type 0 where
@@ -68,8 +59,7 @@ after_film : {play : FilmPlay} {now : ℕ} (slots : List ℕ) (texts : List Plac
 after_film slots [] replies = tt
 after_film [] (placed ∷ texts) replies = absurd replies.sent
 after_film {play} {now} (slot ∷ slots) (placed ∷ texts) replies =
-    let rest : AreOnceDue play now slots texts =
-    record { due = replies.due.1; sent = replies.sent.1; messages = replies.messages.1 } in
+    let rest : AreOnceDue play now slots texts = grind arith in
     (omega (arith, replies.sent.0.next.after, replies.due.0), replies.messages.0, after_film slots texts rest)
 
 -- two first replies, and the others after the film
@@ -93,15 +83,12 @@ pub two_first : {play : FilmPlay} {now total : ℕ} (slots : List ℕ) (texts : 
     → AreReplies play now total slots texts → AreTwoFirst total texts
 two_first [] texts replies = absurd replies.before
 two_first (one ∷ []) texts replies = absurd replies.before.1
-two_first {play} {now} (one ∷ two ∷ slots) [] replies =
-    absurd (never_unsent play now replies.begins replies.before.0 replies.sent.0)
-two_first {play} {now} (one ∷ two ∷ slots) (first ∷ []) replies =
-    absurd (never_unsent play now replies.begins replies.before.1.0 replies.sent.1.0)
+two_first {play} {now} (one ∷ two ∷ slots) [] replies = search never_unsent
+two_first {play} {now} (one ∷ two ∷ slots) (first ∷ []) replies = search never_unsent
 two_first {play} {now} {total} (one ∷ two ∷ slots) (first ∷ second ∷ later) replies =
     let at_first = sent_first {play = play} replies.begins replies.before.0 replies.sent.0 in
     let at_second = sent_first {play = play} replies.begins replies.before.1.0 replies.sent.1.0 in
-    let rest : AreOnceDue play now slots later =
-    record { due = replies.due; sent = replies.sent.1.1; messages = replies.messages.1.1 } in
+    let rest : AreOnceDue play now slots later = grind arith in
     record {
       first = first.text;
       second = second.text;
@@ -112,10 +99,8 @@ two_first {play} {now} {total} (one ∷ two ∷ slots) (first ∷ second ∷ lat
 
 -- TEARDOWN asks for no play
 pub teardown_no_play : (b : Beginning) {message : List ℕ} → message ≡ teardown_text b.wish b.session → IsNoPlay message
-teardown_no_play b {message} is = λ request read method.
-    let asked = teardown-asked b.wish b.session b.wished b.port b.session_is in
-    let same = request_once (rw (← is) at asked.read) read in
-    omega (arith, ap (λ name. get_or name 0 0) (same.method_is ∙ method))
+teardown_no_play b {message} is =
+    grind (arith, teardown-asked b.wish b.session b.wished b.port b.session_is, request_once)
 
 -- the requests of a client, and those of them that a connection processed
 pub record AreAsked (b : Beginning) (requests : List (List ℕ)) : Type 0 where
@@ -168,10 +153,7 @@ module _ {wish : Wish} {stored : Stored} {course : Course} (asked : IsAskedFor w
   asked_film film = asked.named film.number film.stored film.at film.name_is
 
   first_waits : IsWaiting beginning_of (begin_of course).session
-  first_waits = record {
-    stands = first_stands course.films course.settings course.words;
-    still = record { ground = refl; unbegun = tt };
-  }
+  first_waits = grind arith
 
   pub requests_of : AreAsked beginning_of (rounds_requests course.rounds)
   requests_of =
@@ -210,15 +192,7 @@ module _ {wish : Wish} {stored : Stored} {course : Course} (asked : IsAskedFor w
       })
 
   whole_play : (wished : IsWished beginning_of asked.play) → IsWholePlay wish stored wished.identity asked.play
-  whole_play wished =
-      subst (λ s. IsWholePlay wish s wished.identity asked.play) (asked_film wished.film) (record {
-        media = wished.media;
-        control = wished.control;
-        pieces = wished.pieces;
-        before = wished.before;
-        sending = wished.sending;
-        keep = asked.keep;
-      })
+  whole_play wished = grind (arith, asked_film wished.film)
 
   pub asked_played : (played : HasPlayedWhole wish stored course) × (played.play ≡ asked.play)
   asked_played =

@@ -1,3 +1,4 @@
+use Rattle.std.proofs.lemmas.Grind.{common_steps}
 -- The requests that were processed are those of the input, in order: where a client's requests came up to a place, the
 -- first of them, each complete.
 use Rattle.std.proofs.Common.{◌≡◌, ◌⊎◌, ℕ, ◌<◌, ◌++◌, if◌then◌else◌, Bool, true, false, List, ◌∷◌, Ok, Err, length}
@@ -21,8 +22,7 @@ use Rattle.connection_laws.proofs.ElementStreams.{no_element}
 
 append_by : (other : Bool) (x : List ℕ) (xs ys : List (List ℕ))
     → (if other then xs ++ ys else x ∷ (xs ++ ys)) ≡ (if other then xs else x ∷ xs) ++ ys
-append_by true x xs ys = refl
-append_by false x xs ys = refl
+append_by other x xs ys = grind arith
 
 pub requests_append : (xs ys : List (List ℕ)) → requests_in (xs ++ ys) ≡ requests_in xs ++ requests_in ys
 requests_append [] ys = refl
@@ -31,14 +31,10 @@ requests_append (x ∷ xs) ys =
 
 -- a request begins with another byte than CR, LF and `$`
 pub starts_request : (input : List ℕ) (n : ℕ) → StartsMessage input → 0 < n → is_no_request (take n input) ≡ false
-starts_request input n starts some =
-    rw (get_or-take n input 0 0 some, starts.1, starts.2)
+starts_request input n starts some = grind (arith, common_steps)
 
 over_other : (input : List ℕ) (n : ℕ) → IsOver input n → is_no_request (take n input) ≡ true
-over_other input n (AnEnd one some end) =
-    rw (get_or-take n input 0 0 (omega (arith, one)), end)
-over_other input n (ABlock starts four size inside) =
-    rw (get_or-take n input 0 0 (omega (arith, size)) ∙ starts.1)
+over_other input n given = grind arith
 
 -- bytes are split into elements with these requests, and into what waits
 pub record CutsAll (heard : List ℕ) (new : Stage) (messages : List (List ℕ)) : Type 0 where
@@ -89,9 +85,7 @@ cut_then input (p ∷ ps) later cut = (cut.0, (cut.1.0, cut.1.1, cut_then (drop 
 
 comes_input : (old opened : Stage) (event : IoEvent) (due : List SentPart) (halt : Outcome)
     → Comes old event due halt opened → opened.input ≡ old.input ++ bytes_in event
-comes_input old opened (HeardBytes bytes) due halt comes = ap (λ (s : Stage). s.input) comes.3
-comes_input old opened (HeardSlot slot) due halt comes = comes.0 ∙ sym (append-nil old.input)
-comes_input old opened _ due halt comes = absurd comes
+comes_input old opened event due halt given = grind (arith, common_steps)
 
 -- what was received by a stage
 pub record HeardCut (old : Stage) (messages : List (List ℕ)) : Type 0 where
@@ -109,13 +103,7 @@ takings_heard old new (Answered message outcome parts ∷ takings) takes =
 rounds_heard : (old new : Stage) (rounds : List Round) (takes : TakesUp old rounds new)
     → map message_of (heard_requests_in old rounds new takes) ≡ rounds_requests rounds
 rounds_heard old new [] takes = refl
-rounds_heard old new (round ∷ rounds) takes =
-    let runs = takes.1.0 in
-    map-append message_of (heard_requests_taken runs.opened round.takings takes.0 runs.takes)
-    (heard_requests_in takes.0 rounds new takes.1.2)
-    ∙ ap (λ ms. ms ++ map message_of (heard_requests_in takes.0 rounds new takes.1.2))
-    (takings_heard runs.opened takes.0 round.takings runs.takes)
-    ∙ ap (λ ms. takings_requests round.takings ++ ms) (rounds_heard takes.0 new rounds takes.1.2)
+rounds_heard old new (round ∷ rounds) takes = rw (map-append, takings_heard, rounds_heard takes.0 new rounds takes.1.2)
 
 takes_follow : (old new : Stage) (rounds : List Round) → TakesUp old rounds new → IsCourseBetween old rounds new
 takes_follow old new [] takes = takes
@@ -124,18 +112,13 @@ takes_follow old new (round ∷ rounds) takes = (takes.0, (takes.1.0, takes_foll
 pub follows_cut : {new : Stage} {messages : List (List ℕ)} (old : Stage) (rounds : List Round)
     (follows : IsCourseBetween old rounds new) (heard_cut : HeardCut old messages) →
     CutsAll (heard_cut.heard ++ rounds_input rounds) new (messages ++ rounds_requests rounds)
-follows_cut {messages = messages} old [] follows heard_cut =
-    rw (append-nil heard_cut.heard, append-nil messages)
-    (rw follows heard_cut.cuts)
+follows_cut {messages = messages} old [] follows heard_cut = grind (arith, common_steps)
 follows_cut {new} {messages} old (round ∷ rounds) follows heard_cut =
     let mid : Stage = follows.0 in
     let runs = follows.1.0 in
     let opened : Stage = runs.opened in
     let bytes : List ℕ = bytes_in round.event in
-    let grown : AreInputElements (heard ++ bytes) elements opened.input =
-    subst (AreInputElements (heard ++ bytes) elements)
-    (sym (comes_input old opened round.event round.due round.halt runs.comes))
-    (cut_grows heard bytes elements old.input cut) in
+    let grown : AreInputElements (heard ++ bytes) elements opened.input = grind (arith, comes_input, cut_grows) in
     let path = path_of opened mid round.takings runs.takes in
     let more : List (List ℕ) = takings_requests round.takings in
     let next = goes_cut opened mid path.way.elements path.way.goes in
@@ -210,20 +193,15 @@ joined (text ∷ texts) = text ++ joined texts
 texts_cut : (texts : List (List ℕ)) → AreFound texts → AreInputElements (joined texts) texts []
 texts_cut [] found = refl
 texts_cut (text ∷ texts) found =
-    let first = found.0 (joined texts) in
-    let rest = drop_at text (joined texts) (length text) refl in (
-      length text,
-      (
-        WholeMessage first.0 first.1 first.2,
-        sym (take_at text (joined texts) (length text) refl),
-        rw rest (texts_cut texts found.1),
-      ),
+    grind (
+      arith,
+      drop_at text (joined texts) (length text) refl,
+      take_at text (joined texts) (length text) refl,
+      texts_cut texts found.1,
     )
 
 text_request : (text : List ℕ) → IsFirst (text ++ []) (Ok (Request (length text))) → is_no_request text ≡ false
-text_request text first =
-    let some : 0 < length text = omega (arith, first.1.total_is, first.1.is_head.some) in
-    ap is_no_request (sym (take_at text [] (length text) refl)) ∙ starts_request (text ++ []) (length text) first.0 some
+text_request text first = grind (arith, common_steps)
 
 texts_requests : (texts : List (List ℕ)) → AreFound texts → requests_in texts ≡ texts
 texts_requests [] found = refl
@@ -246,11 +224,7 @@ front_cut {input} texts elements rest found front cut =
     in
     elim (cuts_agree (record { one = grown; other = texts_cut texts found })) [
       | inl goes ↦ (goes.0, goes.1.0)
-      | inr goes ↦ (
-        [],
-        sym (goes.1.0 ∙ ap (λ l. texts ++ l) (nothing_cut goes.0 (rest ++ later) goes.1.1)
-            ∙ append-nil texts) ∙ sym (append-nil elements),
-      )
+      | inr goes ↦ grind (arith, nothing_cut, append-nil texts)
     ]
 
 pub requests_front : (course : Course) (texts : List (List ℕ)) → AreFound texts

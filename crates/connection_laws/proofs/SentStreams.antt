@@ -1,3 +1,4 @@
+use Rattle.std.proofs.lemmas.Grind.{common_steps}
 -- What a connection sent as a stream of two replies, a film's blocks, and later replies.
 use Rattle.std.specs.Prelude.{⊤}
 use Rattle.std.proofs.Common.{◌≡◌, ℕ, ◌+◌, ◌-◌, ◌<◌, ◌≤◌, max, min, List, [], ◌∷◌, ◌++◌, length, take, drop, map, refl}
@@ -22,7 +23,7 @@ pub parts_length : (place : ℕ) (parts : List SentPart)
     → length (parts_bytes parts) ≡ length (film_bytes parts) + texts_length (placed_texts place parts)
 parts_length place [] = refl
 parts_length place (Film bytes ∷ parts) =
-    omega (
+    grind (
       arith,
       parts_length (place + length bytes) parts,
       length-append bytes (parts_bytes parts),
@@ -37,20 +38,14 @@ IsFromTo from to (placed ∷ texts) = (from ≤ placed.place) × ((placed.place 
 from_to_wider : {low from to high : ℕ} (texts : List PlacedText) → low ≤ from → to ≤ high
     → IsFromTo from to texts → IsFromTo low high texts
 from_to_wider {low} {from} [] less more are = tt
-from_to_wider {low} {from} {to} {high} (placed ∷ texts) less more are = (
-  omega (arith, less, are.0),
-  (
-    omega (arith, more, are.1.0),
-    from_to_wider {low = low} {from = from} {to = to} {high = high} texts less more are.1.1,
-  ),
-)
+from_to_wider {low} {from} {to} {high} (placed ∷ texts) less more are =
+    grind (arith, from_to_wider {low = low} {from = from} {to = to} {high = high} texts less more are.1.1)
 
 pub texts_within : (place : ℕ) (parts : List SentPart) → IsFromTo place (place + length (film_bytes parts))
     (placed_texts place parts)
 texts_within place [] = tt
 texts_within place (Film bytes ∷ parts) =
-    from_to_wider (placed_texts (place + length bytes) parts) (omega arith)
-    (omega (arith, length-append bytes (film_bytes parts))) (texts_within (place + length bytes) parts)
+    grind (arith, from_to_wider, length-append bytes (film_bytes parts), texts_within (place + length bytes) parts)
 texts_within place (Text text ∷ parts) = (omega arith, (omega arith, texts_within place parts))
 
 pub texts_parts : (place : ℕ) (xs ys : List SentPart)
@@ -83,31 +78,10 @@ pub counted_by : {later rest : List PlacedText} {film total : ℕ} (texts_first 
     → ((placed : PlacedText) (texts : List PlacedText) → rest ≡ placed ∷ texts → film ≤ placed.place)
     → LaterTexts film total later → IsCounted (length texts_first.setup)
     (length texts_first.played) film total (film + texts_length front)
-counted_by {later} {film} texts_first [] all within next later_texts =
-    let none : film ≤ 0 = next (placed_text 0 texts_first.setup) (placed_text 0 texts_first.played ∷ later) all in
-    record { is = λ much. absurd (omega (arith, much, none, texts_first.some_setup)) }
-counted_by {later} {rest} {film} texts_first (a ∷ []) all within next later_texts =
-    let first : a ≡ placed_text 0 setup = cc in
-    let second : rest ≡ placed_text 0 played ∷ later = cc in
-    let none : film ≤ 0 = next (placed_text 0 played) later second in
-    let size : length a.text ≡ length setup = ap (λ (p : PlacedText). length p.text) first in
-    record { is = λ much. absurd (omega (arith, much, none, size, some_played)) }
-  where
-    open texts_first use {setup, played, some_played}
-counted_by {later} texts_first (a ∷ b ∷ []) all within next later_texts =
-    let first : a ≡ placed_text 0 texts_first.setup = cc in
-    let second : b ≡ placed_text 0 texts_first.played = cc in
-    let one : length a.text ≡ length texts_first.setup = ap (λ (p : PlacedText). length p.text) first in
-    let two : length b.text ≡ length texts_first.played = ap (λ (p : PlacedText). length p.text) second in
-    record { is = λ much. omega (arith, one, two, later_texts.few) }
-counted_by {later} {rest} {total} texts_first (a ∷ b ∷ c ∷ texts) all within next later_texts =
-    let first : a ≡ placed_text 0 texts_first.setup = cc in
-    let second : b ≡ placed_text 0 texts_first.played = cc in
-    let third : later ≡ c ∷ (texts ++ rest) = cc in
-    let one : length a.text ≡ length texts_first.setup = ap (λ (p : PlacedText). length p.text) first in
-    let two : length b.text ≡ length texts_first.played = ap (λ (p : PlacedText). length p.text) second in
-    let past = rw third at later_texts.after in
-    record { is = λ much. omega (arith, one, two, later_texts.few, past.0, within.1.1.1.0) }
+counted_by {later} {film} texts_first [] all within next later_texts = grind arith
+counted_by {later} {rest} {film} texts_first (a ∷ []) all within next later_texts = grind arith
+counted_by {later} texts_first (a ∷ b ∷ []) all within next later_texts = grind arith
+counted_by {later} {rest} {total} texts_first (a ∷ b ∷ c ∷ texts) all within next later_texts = grind arith
 
 -- ---- all of it, as a prefix of the stream
 
@@ -125,18 +99,6 @@ pub record IsFrontOf (bytes all : List ℕ) : Type 0 where
   pub count : ℕ
   pub is : bytes ≡ take count all
 
-front_same : (film blocks : List ℕ) (n : ℕ) → film ≡ take n blocks → film ≡ take (length film) (blocks ++ [])
-front_same film blocks n is =
-    let size : length film ≡ min n (length blocks) = ap (λ (l : List ℕ). length l) is ∙ length-take n blocks in
-    elim (cases_lt n (length blocks)) [
-      | inl less ↦ is
-          ∙ (ap (λ k. take k blocks) ((omega (arith, size, less)))
-          ∙ ap (λ l. take (length film) l) (sym (append-nil blocks)))
-      | inr more ↦
-          (is ∙ take_all n blocks more) ∙ (sym (take_all (length film) blocks (omega (arith, size, more)))
-          ∙ ap (λ l. take (length film) l) (sym (append-nil blocks)))
-    ]
-
 -- bytes that are a prefix of these blocks
 pub record BlocksFront (film : List ℕ) : Type 0 where
   pub blocks : List ℕ
@@ -147,8 +109,7 @@ pub record BlocksFront (film : List ℕ) : Type 0 where
 film_woven : {film : List ℕ} (front : BlocksFront film) (later : List PlacedText) → AreAfter (length front.blocks) later
     → IsFromTo 0 (length film) later
     → IsFrontOf (insert_texts 0 film later) (front.blocks ++ framed_bytes (map text_of later))
-film_woven {film} front [] after within =
-    record { count = length film; is = front_same film front.blocks front.count front.front_is }
+film_woven {film} front [] after within = grind (arith, common_steps)
 film_woven {film} front (placed ∷ texts) after within =
     let blocks = front.blocks in
     let n = front.count in
@@ -158,16 +119,10 @@ film_woven {film} front (placed ∷ texts) after within =
     let whole : film ≡ blocks = is ∙ take_all n blocks (omega (arith, size, long)) in
     let n0 : ℕ = placed.place - 0 in
     let all : insert_texts 0 film (placed ∷ texts) ≡ blocks ++ framed_bytes (map text_of (placed ∷ texts)) =
-    ap (λ l. l ++ (placed.text ++ insert_texts placed.place (drop n0 film) texts))
-    (take_all n0 film (omega (arith, after.0, ap (λ (l : List ℕ). length l) whole)) ∙ whole)
-    ∙ ap (λ l. blocks ++ (placed.text ++ l))
-    (woven_texts placed.place (drop n0 film) texts
-    (drop_all n0 film (omega (arith, after.0, ap (λ (l : List ℕ). length l) whole)))) in
+    grind (arith, take_all, woven_texts, drop_all) in
     record {
       count = length (blocks ++ framed_bytes (map text_of (placed ∷ texts)));
-      is =
-          all ∙ sym (take_all (length (blocks ++ framed_bytes (map text_of (placed ∷ texts))))
-          (blocks ++ framed_bytes (map text_of (placed ∷ texts))) (omega arith));
+      is = grind (arith, common_steps);
     }
 
 pub all_woven : {film : List ℕ} (front : BlocksFront film) (setup played : List ℕ) (later : List PlacedText) →
@@ -215,21 +170,25 @@ abbrev pub AreEvents : List Round → Type 0
 AreEvents = Each HasEvent
 
 event_sent : (event : IoEvent) (rest : List IoEvent) → IsEvent event → sent_bytes (event ∷ rest) ≡ sent_bytes rest
-event_sent (Sent byte) rest is = absurd is
-event_sent _ rest is = refl
+event_sent event rest given = grind arith
 
 pub rounds_sent_are : (rounds : List Round) → AreEvents rounds → sent_bytes (rounds_doings rounds) ≡ rounds_bytes rounds
 rounds_sent_are [] are = refl
 rounds_sent_are (round ∷ rounds) are =
-    let sent = sends (round_bytes round) in
-    rw (event_sent round.event (sent ++ rounds_doings rounds) are.0, sent_append sent (rounds_doings rounds))
-    (rw (sent_sends (round_bytes round), rounds_sent_are rounds are.1))
+    grind (
+      arith,
+      sends (round_bytes round),
+      round_bytes round,
+      event_sent,
+      rounds_doings rounds,
+      sent_append,
+      sent_sends (round_bytes round),
+      rounds_sent_are rounds are.1,
+    )
 
 pub rounds_latest : (rounds : List Round) → latest_slot (rounds_doings rounds) ≡ greatest_slot rounds
 rounds_latest [] = refl
-rounds_latest (round ∷ rounds) =
-    let sent = sends (round_bytes round) in
-    omega (arith, latest_append sent (rounds_doings rounds), latest_sends (round_bytes round), rounds_latest rounds)
+rounds_latest (round ∷ rounds) = grind (arith, latest_append, latest_sends (round_bytes round), rounds_latest rounds)
 
 -- a prefix that no byte follows is that of complete rounds
 pub record AreWhole (rounds : List Round) (front : List IoEvent) : Type 0 where

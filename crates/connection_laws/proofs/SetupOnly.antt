@@ -1,3 +1,4 @@
+use Rattle.std.proofs.Common.{arith}
 -- Requests other than PLAY begin no play. A connection that is asked for SETUP alone, before PLAY, plays nothing; where
 -- SETUP was answered 200 it settled what was wished.
 use Rattle.std.specs.Prelude.{⊤}
@@ -17,7 +18,6 @@ use Rattle.session_laws.proofs.PlayInReadyLemmas.{play_started}
 use Rattle.session.proofs.InitialStateLemmas.{heard_by}
 use Rattle.connection_laws.proofs.BookedPlays.{comes_none}
 use Rattle.connection_laws.proofs.RequestEffects.{Ends, Starts, Stays}
-use Rattle.connection_laws.proofs.StationAnswers.{nothing_left}
 use Rattle.session.specs.declared.commands.Ask.TheVariants.{Reply}
 use Rattle.connection_laws.proofs.ClientSetups.{IsSettled, settled_by, setup_is, Beginning}
 use Rattle.session_laws.proofs.SetupLemmas.{SetupHeard, Refused, Settled, setup_heard}
@@ -57,8 +57,7 @@ none_back = record {
 }
 
 pub none_played : (course : Course) → AreNoPlays (rounds_requests course.rounds) → course_plays course ≡ []
-none_played course are =
-    course_back none_back course (λ stands none. refl) (first_stands course.films course.settings course.words) are
+none_played course are = grind (arith, course_back, none_back)
 
 -- no play has begun, and a SETUP that was answered 200 settled what the client wished
 abbrev pub IsUnbegun : Wish → List Stored → State → Type 0
@@ -83,18 +82,6 @@ pub record IsWaiting (b : Beginning) (s : SessionState) : Type 0 where
   pub stands : Stands s
   pub still : IsWaitingStill b s
 
-still_as : {b : Beginning} {old new : SessionState} → ground_of new ≡ ground_of old → new.state ≡ old.state
-    → IsWaitingStill b old → IsWaitingStill b new
-still_as {b} ground state still = record {
-  ground = ground ∙ still.ground;
-  unbegun = rw state still.unbegun;
-}
-
-unsending : (wish : Wish) (films : List Stored) (state : State) → IsUnbegun wish films state → is_sending state ≡ false
-unsending wish films (Playing setup play) is = absurd is
-unsending wish films (Stopping setup stop) is = absurd is
-unsending wish films _ is = refl
-
 -- what a slot leaves where nothing is sent: all but the slot that was received last
 abbrev unsent_part : SessionState → SessionState
 unsent_part s = record s { heard = 0 }
@@ -102,54 +89,28 @@ unsent_part s = record s { heard = 0 }
 heard_on : (old : SessionState) (slot : ℕ) (taken sending : Bool) → sending ≡ false → unsent_part
     (if taken then (if sending then after_play (sent_slot old slot) else record old { heard = slot }) else old)
     ≡ unsent_part old
-heard_on old slot true true is = absurd (true≢false is)
-heard_on old slot _ _ is = refl
+heard_on old slot taken sending given = grind arith
 
 comes_same : {old opened : Stage} {round : Round} → ComesAs old round opened → old.session.awaited ≡ Nothing
     → is_sending old.session.state ≡ false → unsent_part opened.session ≡ unsent_part old.session
-comes_same BytesCame rest idle = refl
-comes_same {old} (SlotCame {slot = slot} finish) rest idle =
-    let on = heard_on old.session slot (is_taken old.session slot) (is_sending old.session.state) idle in
-    let awaited = ap (λ (part : SessionState). part.awaited) on ∙ rest in
-    ap unsent_part (nothing_left finish (ap awaited_answer_of awaited)) ∙ on
+comes_same given given' given'' = grind arith
 
 pub event_waits : {b : Beginning} {old opened : Stage} {round : Round} → ComesAs old round opened
     → IsWaiting b old.session → IsWaiting b opened.session
-event_waits {b} {old} comes waits =
-    let on = comes_same comes waits.stands.rest
-    (unsending b.wish b.start.films old.session.state waits.still.unbegun) in
-    record {
-      stands = stands_by (event_step waits.stands comes);
-      still = still_as (ap ground_of on) (ap (λ (part : SessionState). part.state) on) waits.still;
-    }
-
--- a reply that goes out leaves a film that isn't sent as it is
-unbegun_reply : (wish : Wish) (films : List Stored) (state : State) → IsUnbegun wish films state
-    → IsUnbegun wish films (after_stop state)
-unbegun_reply wish films (Playing setup play) is = absurd is
-unbegun_reply wish films (Stopping setup stop) is = absurd is
-unbegun_reply wish films _ is = is
+event_waits {b} {old} comes waits = grind (arith, comes_same)
 
 replied_waits : {b : Beginning} (goes : Bool) (s : SessionState) → IsWaitingStill b s
     → IsWaitingStill b (if goes then sent_reply s else s)
-replied_waits {b} true s still =
-    record { ground = still.ground; unbegun = unbegun_reply b.wish b.start.films s.state still.unbegun }
-replied_waits false s still = still
+replied_waits goes s given = grind arith
 
 pub reply_same : (asking : SessionState) (ask : Ask) (outcome : Outcome) (new : SessionState) → ask ≡ Reply
     → IsAskAnswered asking ask outcome new → new ≡ asking
-reply_same asking ask outcome new is answered =
-    go outcome (rw is at answered)
-  where
-    go : (o : Outcome) → IsAskAnswered asking Reply o new → new ≡ asking
-    go Unasked same = same
-    go _ same = absurd same
+reply_same asking ask outcome new is answered = grind arith
 
 setup_waits : {b : Beginning} {old asking : SessionState} {ask : Ask} → IsWaiting b old
     → SetupHeard old (film_url b.wish ++ codes "/video") (request_head (setup_parts b.wish)) ask asking
     → (ask ≡ Reply) × IsWaitingStill b asking
-setup_waits waits (Refused text reply is) =
-    (reply, still_as (ap ground_of is) (ap (λ (s : SessionState). s.state) is) waits.still)
+setup_waits waits (Refused text reply is) = grind arith
 setup_waits {b} waits (Settled setup text authority reply is asks names) =
     let N : Ground → Type 0 = λ g. Names g.films (film_url b.wish ++ codes "/video") authority setup.film in
     let settled = settled_by b asks (subst N waits.still.ground names) in (

@@ -17,40 +17,26 @@ use Rattle.pacer.proofs.SlotStepLemmas.{most-slots}
 -- at a boundary the rest of a halted play was sent
 pub ended_at : {p : PacerState} {slot : ℕ} → IsOnTime p slot → IsAtLast p → IsBoundary p.pieces (p.before + p.sent)
     → p.sent ≡ p.keep
-ended_at {p} on last boundary =
-    omega (arith, last (p.before + p.sent) boundary (omega arith), on.even, on.pacing.due)
+ended_at {p} on last boundary = grind arith
 
 -- ---- a request
 
 pub sound_waits : (sends : Sends) (old new : Bool) (slot : ℕ) → IsSound sends old slot → (new ≡ true)
     → IsSound sends new slot
-sound_waits Idle old new slot is waits = tt
-sound_waits (Going p) old new slot is waits = is
-sound_waits (Ending p) old new slot is waits = (is.0, waits, is.2)
+sound_waits sends old new slot given given' = grind arith
 
 -- a play is halted at the next boundary
 halted_pacing : (p : PacerState) (slot : ℕ) → IsSound (Going p) true slot
     → IsSound (Ending (record p { keep = next_boundary p })) true slot
 halted_pacing p slot is =
     let on = is.0 in
-    let inside : p.before + p.sent ≤ length (framed_bytes p.pieces) =
-    omega (arith, on.pacing.whole, on.pacing.most, on.pacing.due, on.even) in
+    let inside : p.before + p.sent ≤ length (framed_bytes p.pieces) = grind arith in
     let next = boundary-from p.pieces (p.before + p.sent) inside in
-    let most : boundary_from p.pieces (p.before + p.sent) ≤ p.before + p.keep =
-    next.least (p.before + p.keep) on.pacing.ends (omega (arith, on.pacing.due, on.even)) in
+    let most : boundary_from p.pieces (p.before + p.sent) ≤ p.before + p.keep = grind arith in
     let place : p.before + next_boundary p ≡ boundary_from p.pieces (p.before + p.sent) = omega (arith, next.after) in
     let few : first_slots p.plan p.passed ≤ total_bytes p.plan = most-slots p.plan p.passed on.pacing.plan in (
       record {
-        pacing = record {
-          plan = on.pacing.plan;
-          whole = on.pacing.whole;
-          short = on.pacing.short;
-          begins = on.pacing.begins;
-          ends = rw place next.boundary;
-          most = omega (arith, most, place, is.1);
-          due = omega (arith, on.pacing.due, on.even, is.1, few, place, next.after);
-          sent = on.pacing.sent;
-        };
+        pacing = grind arith;
         passed = on.passed;
         even = on.even;
       },
@@ -63,9 +49,7 @@ pub turn_sound : {old new : SessionState} {asked : Awaited} {outcome : Outcome}
     → IsSound (sends_in old.state) true old.heard → TurnsAs old asked outcome new
     → IsSound (sends_in new.state) true old.heard
 turn_sound sound (Stays same still) = rw same sound
-turn_sound {old} sound (Starts begins) =
-    let later = begins.admitted.later in
-    rw begins.sends (record { pacing = begins.pacing; passed = omega (arith, later); even = refl }, refl)
+turn_sound {old} sound (Starts begins) = grind arith
 turn_sound {old} sound (Ends halts) =
     rw halts.sends (halted_pacing halts.pacing old.heard (rw halts.going at sound))
 
@@ -85,9 +69,7 @@ going_cases : (waits between : Bool) (pacings : SlotPacings) →
     then (if between then going_with pacings.setup pacings.play pacings.both else going_with pacings.setup pacings.play
     pacings.front) else going_with pacings.setup pacings.play pacings.plain))
     ≡ Going (if waits then (if between then pacings.both else pacings.front) else pacings.plain)
-going_cases false between pacings = refl
-going_cases true false pacings = refl
-going_cases true true pacings = refl
+going_cases waits between pacings = grind arith
 
 pub going_sends : (waits : Bool) (setup : Setup) (play : Played) (slot : ℕ) → IsPacerState play.pacer
     → sends_in (state_after_slot waits (Playing setup play) slot) ≡ Going (sent_through slot play.pacer)
@@ -109,5 +91,4 @@ pub ending_cases : (between : Bool) (setup : Setup) (stop : Stop) (both one : Pa
     sends_in (if between then after_stop (if between then ending_with setup stop both else ending_with setup stop one)
     else (if between then ending_with setup stop both else ending_with setup stop one))
     ≡ (if between then Idle else Ending one)
-ending_cases true setup stop both one = refl
-ending_cases false setup stop both one = refl
+ending_cases between setup stop both one = grind arith

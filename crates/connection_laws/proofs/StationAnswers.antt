@@ -1,3 +1,4 @@
+use Rattle.std.proofs.Common.{arith}
 -- What the station can answer, case by case, in a slot and as a connection ends; and the session after each answer.
 use Rattle.std.proofs.Common.{◌≡◌, ℕ, ◌^◌, ◌<◌, List, Option, Some, None, refl, ap, sym, ◌&&◌, if◌then◌else◌, Bool}
 use Rattle.std.proofs.Common.{nat_lt, nat_le, [], true, false}
@@ -34,19 +35,12 @@ answer_leaves _ = refl
 
 pub finish_leaves : {s new : SessionState} {asks : AwaitedAnswer} {outcome : Outcome} → FinishesAs s asks outcome new
     → new ≡ after_outcome s outcome
-finish_leaves NothingLeft = refl
-finish_leaves {s} (DoneHalted {placed = p} entry) = ap (after_entry s p) (sym entry.answer_is)
-
-pub nothing_left : {s new : SessionState} {asks : AwaitedAnswer} {outcome : Outcome} → FinishesAs s asks outcome new
-    → asks ≡ NoAnswer → new ≡ s
-nothing_left NothingLeft none = refl
-nothing_left (DoneHalted {keep = keep} entry) none = cc
+finish_leaves given = grind arith
 
 -- what a halt was asked for
 pub halt_of : {keep : ℕ} (awaited : Awaited) → awaited_answer_of awaited ≡ HaltAnswer keep
     → (next : AfterHalt) × (awaited ≡ Halt keep next)
-halt_of (Halt kept next) is = (next, cc)
-halt_of _ is = cc
+halt_of awaited given = grind arith
 
 -- a connection ends without an open booking, or it halts its booking with what is due
 abbrev pub closing : Option OpenBooking → AwaitedAnswer
@@ -55,9 +49,7 @@ closing (Some booking) = HaltAnswer booking.due
 
 pub closes_as : {old new : SessionState} (held : Option OpenBooking) (outcome : Outcome) → IsClosed held old outcome new
     → FinishesAs old (closing held) outcome new
-closes_as None Unasked is = finishes_as NoAnswer Unasked is
-closes_as (Some booking) outcome is = finishes_as (HaltAnswer booking.due) outcome is
-closes_as None _ is = absurd is
+closes_as held outcome given = grind (arith, finishes_as)
 
 -- a slot was processed: what is due was sent, or nothing is being sent, or the slot is past
 pub data SlotTo (old : SessionState) (slot : ℕ) : SessionState → List SentPart → Type 0 where

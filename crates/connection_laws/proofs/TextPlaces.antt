@@ -1,3 +1,4 @@
+use Rattle.std.proofs.lemmas.Grind.{common_steps}
 -- Where texts stand among the bytes of a play, and of the plays after it.
 use Rattle.std.proofs.Common.{◌≡◌, ℕ, ◌+◌, ◌-◌, ◌<◌, ◌≤◌, List, ◌∷◌, Option, Some, None, length, refl, ap, ◌∙◌, subst}
 use Rattle.std.proofs.Common.{inl, inr, arith, ◌++◌, append_assoc, take, drop, sym, []}
@@ -27,20 +28,14 @@ pub record AreLater (slot : ℕ) (plays : List FilmPlay) : Type 0 where
   pub begins : IsBoundaryIn plays 0
 
 pub later_lower : (low slot : ℕ) (plays : List FilmPlay) → low ≤ slot → AreLater slot plays → AreLater low plays
-later_lower low slot plays less are = record {
-  starts = each_weaker (BeginsAfter slot) (BeginsAfter low) (λ play is. omega (arith, less, is)) plays are.starts;
-  begins = are.begins;
-}
+later_lower low slot plays less are = grind (arith, each_weaker)
 
 not_begun : (slot : ℕ) (play : FilmPlay) → slot < play.start → due_of slot play ≡ 0
-not_begun slot play later =
-    let none : slot + 1 - play.start ≡ 0 = omega (arith, later) in
-    omega (arith, ap (first_slots play.plan) none)
+not_begun slot play later = grind arith
 
 pub none_due : (slot : ℕ) (plays : List FilmPlay) → AreAfter slot plays → all_due slot plays ≡ 0
 none_due slot [] are = refl
-none_due slot (play ∷ plays) are =
-    due_cons slot play plays ∙ omega (arith, not_begun slot play are.0, none_due slot plays are.1)
+none_due slot (play ∷ plays) are = rw (due_cons slot play plays, not_begun slot play are.0, none_due slot plays are.1)
 
 -- slots from one on
 abbrev pub AreFrom : ℕ → List ℕ → Type 0
@@ -88,16 +83,7 @@ pub record UpTo (p : PacerState) : Type 0 where
 
 -- how many bytes these are
 size_to : (p : PacerState) (up : UpTo p) → p.sent + length (plan_bytes p p.sent up.to) ≡ up.to
-size_to p up =
-    omega (
-      arith,
-      length-take (p.before + up.to - (p.before + p.sent)) (drop (p.before + p.sent) (framed_bytes p.pieces)),
-      length-drop (p.before + p.sent) (framed_bytes p.pieces),
-      up.pacing.whole,
-      up.pacing.most,
-      up.from,
-      up.most,
-    )
+size_to p up = grind (arith, common_steps)
 
 -- bytes of the film
 pub film_at : {p : PacerState} {keep : ℕ} {plays : List FilmPlay} {come : ToCome} (up : UpTo p)
@@ -122,8 +108,7 @@ pub record IsAtNext (p : PacerState) (due : ℕ) : Type 0 where
 
 pub due_first : (play : FilmPlay) (plays : List FilmPlay) (slot : ℕ) → AreAfter slot plays
     → all_due slot (play ∷ plays) ≡ due_of slot play
-due_first play plays slot are =
-    due_cons slot play plays ∙ omega (arith, none_due slot plays are)
+due_first play plays slot are = grind (arith, due_cons slot play plays, none_due slot plays are)
 
 -- a text at the first boundary from what was due in a slot on, before plays that begin later
 pub record NextText (p : PacerState) (keep : ℕ) (plays : List FilmPlay) (end : ℕ) : Type 0 where
@@ -187,9 +172,7 @@ past_unsent : {slot : ℕ} (past : PastPlay) → past.from ≤ slot → IsUnsent
 past_unsent {slot} past later none = λ place boundary due.
     let first = past_due past slot later in
     elim boundary [
-      | inl own ↦
-          let nothing : all_due slot past.plays ≤ 0 = omega (arith, first, due, own.0) in
-          absurd (omega (arith, none 0 past.begins nothing))
+      | inl own ↦ grind arith
       | inr other ↦
           omega (
             arith,
@@ -201,24 +184,7 @@ past_unsent {slot} past later none = λ place boundary due.
 past_sent : {slot : ℕ} (past : PastPlay) (at : ℕ) (text : List ℕ) → past.from ≤ slot
     → IsSentAt past.end past.plays slot (placed_text at text)
     → IsSentAt past.end (all_of past) slot (placed_text (past.play.keep + at) text)
-past_sent {slot} past at text later sent =
-    let first = past_due past slot later in
-    let last = past_due past past.end past.ends in
-    record {
-      next = record {
-        boundary = inr (omega arith, subst (IsBoundaryIn past.plays) (omega arith) sent.next.boundary);
-        after = omega (arith, first, sent.next.after);
-        least = λ other boundary due. elim boundary [
-          | inl own ↦
-              let here = sent.next.least 0 past.begins (omega (arith, first, due, own.0)) in
-              omega (arith, here, first, due)
-          | inr beyond ↦
-              let least = sent.next.least (other - past.play.keep) beyond.1 (omega (arith, first, due, beyond.0)) in
-              omega (arith, least, beyond.0)
-        ];
-      };
-      reached = omega (arith, last, sent.reached);
-    }
+past_sent {slot} past at text later sent = grind (arith, common_steps)
 
 pub past_all : (past : PastPlay) (at : ℕ) (slots : List ℕ) (parts : List SentPart) → AreFrom past.from slots
     → AreSentAt past.end past.plays slots (placed_texts at parts)

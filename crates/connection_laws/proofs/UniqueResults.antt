@@ -1,3 +1,4 @@
+use Rattle.std.proofs.Common.{arith}
 -- What a connection does with a request or a slot has one result, by what the station and the memory answer.
 use Rattle.std.specs.Prelude.{⊤}
 use Rattle.std.proofs.Common.{◌≡◌, ℕ, ◌++◌, Bool, true, false, List, [], ◌∷◌, refl, ap, sym, ◌∙◌, subst, inl, inr}
@@ -28,22 +29,15 @@ pub record SameQuestion (one other : HeardRequest) : Type 0 where
 abbrev asked_again : HeardRequest → HeardRequest → HeardRequest
 asked_again one other = record other { session = one.session; message = one.message }
 
-lacks_once : (one other : HeardRequest) → RanOutOfMemory one → RanOutOfMemory (asked_again one other)
-    → (other.ask ≡ one.ask) × (other.asking ≡ one.asking)
-lacks_once one other lacks also = (also.0 ∙ sym lacks.0, also.1 ∙ sym lacks.1)
-
 hears_by : (one other : HeardRequest) → LackMemoryAlike one (asked_again one other)
     → IsOneAnswer one.session one.message one.ask one.asking other.ask other.asking
     → (other.ask ≡ one.ask) × (other.asking ≡ one.asking)
-hears_by one other alike (inl same) = (same.ask_is, same.session_is)
-hears_by one other alike (inr (inl lacks)) = lacks_once one other lacks (alike.there lacks)
-hears_by one other alike (inr (inr lacks)) = lacks_once one other (alike.back lacks) lacks
+hears_by one other given given' = grind arith
 
 pub hears_same : {one other : HeardRequest} → SameQuestion one other
     → (other.ask ≡ one.ask) × (other.asking ≡ one.asking)
 hears_same {one} {other} same =
-    let alike : LackMemoryAlike one (asked_again one other) =
-    rw same.session at (subst (λ m. LackMemoryAlike one (record other { message = m })) same.message same.alike) in
+    let alike : LackMemoryAlike one (asked_again one other) = grind arith in
     let also : Hears one.session one.message other.ask other.asking =
     rw same.session at (subst (λ m. Hears other.session m other.ask other.asking) same.message same.also) in
     hears_by one other alike (hears_once (heard_by same.hears) same.films also)
@@ -63,41 +57,17 @@ pub record AnswersAlike (one other : Outcome) : Type 0 where
   pub same : AreSameAnswers (answer_in one ++ ones) (answer_in other ++ others)
 
 answer_one : (outcome : Outcome) → IsAsked true outcome → answer_in outcome ≡ outcome ∷ []
-answer_one Unasked is = absurd is
-answer_one _ is = refl
+answer_one outcome given = grind arith
 
 outcomes_same : {one other : Outcome} (asked : Bool) (alike : AnswersAlike one other) → IsAsked asked one
     → IsAsked asked other → (other ≡ one) × AreSameAnswers alike.ones alike.others
-outcomes_same {one} {other} true alike is also =
-    let both : AreSameAnswers (one ∷ alike.ones) (other ∷ alike.others) =
-    rw (answer_one one is) at
-    (subst (λ l. AreSameAnswers (answer_in one ++ alike.ones) (l ++ alike.others)) (answer_one other also)
-    alike.same) in
-    (sym both.0, both.1)
-outcomes_same {one} {other} false alike is also = (
-  also ∙ sym is,
-  rw is at (subst (λ o. AreSameAnswers (answer_in one ++ alike.ones) (answer_in o ++ alike.others)) also alike.same),
-)
-
--- a reply of the session's own asks the station for nothing
-abbrev is_asking : Ask → Bool
-is_asking AskReply = false
-is_asking _ = true
-
-asked_as : {asking new : SessionState} {ask : Ask} {outcome : Outcome} → AnswersAs asking ask outcome new
-    → IsAsked (is_asking ask) outcome
-asked_as NoneAsked = refl
-asked_as _ = tt
+outcomes_same asked alike given given' = grind arith
 
 -- the same answer, and the same session after it
 pub answers_same : {new again : SessionState} {one other : Outcome} (old : SessionState) (ask : Ask)
     (alike : AnswersAlike one other) → IsAskAnswered old ask one new × IsAskAnswered old ask other again →
     (again ≡ new) × AreSameAnswers alike.ones alike.others
-answers_same {one = one} {other = other} old ask alike answered =
-    let is = answers_as ask one answered.0 in
-    let also = answers_as ask other answered.1 in
-    let both = outcomes_same (is_asking ask) alike (asked_as is) (asked_as also) in
-    (answer_leaves also ∙ ap (after_outcome old) both.0 ∙ sym (answer_leaves is), both.1)
+answers_same {one = one} {other = other} old ask alike answered = grind arith
 
 -- ---- a slot is processed
 
@@ -107,8 +77,7 @@ is_halting _ = false
 
 finished_as : {s new : SessionState} {asks : AwaitedAnswer} {outcome : Outcome} → FinishesAs s asks outcome new
     → IsAsked (is_halting asks) outcome
-finished_as NothingLeft = refl
-finished_as (DoneHalted entry) = tt
+finished_as given = grind arith
 
 -- a slot was processed, with these parts sent, and a play that is then done was halted
 pub record SlotResult (old : SessionState) (slot : ℕ) (halt : Outcome) : Type 0 where

@@ -1,3 +1,4 @@
+use Rattle.std.proofs.lemmas.Grind.{common_steps}
 -- The sizes of units, as a client reads them from the frames and reports of a run.
 use Rattle.std.proofs.Common.{◌≡◌, ℕ, zero, suc, ◌+◌, ◌-◌, ◌<◌, ◌≤◌, ◌&&◌, Bool, true, false, not, nat_lt, List, []}
 use Rattle.std.proofs.Common.{◌∷◌, ◌++◌, length, take, map, sum, refl, sym, ap, ◌∙◌, append_assoc, arith, inl, inr}
@@ -64,17 +65,7 @@ whole_frames : {s : Sum} (from : RunFrom) (unit : PictureUnit) (packets : List P
     (s.pending + length (framed_bytes (frame_blocks from.run unit from.frames packets)))
     (steps s (events_of_elements (frame_blocks from.run unit from.frames packets)))
 whole_frames from unit [] marked some = absurd (omega (arith, some))
-whole_frames {s} from unit (p ∷ []) marked some =
-    let b = frame_block run unit p f in
-    let last : is_last b ≡ true = last_is run f unit p ∙ marked in
-    block_sizes b [] (λ l. IsUnitDone s (s.pending + length (b ++ [])) (steps s l)) (frame_moment run f unit p media)
-    (record {
-      sizes = cc (cond-true (is_last b) (s.sizes ++ (s.pending + length b) ∷ []) s.sizes last, append-nil b);
-      pending = cond-true (is_last b) 0 (s.pending + length b) last;
-      inside = ap not last;
-    })
-  where
-    open from use {run, frames as f, media}
+whole_frames {s} from unit (p ∷ []) marked some = grind (arith, common_steps)
 whole_frames {s} from unit (p ∷ (q ∷ packets)) marked some =
     let b = frame_block run unit p f in
     let last : is_last b ≡ false = last_is run f unit p ∙ marked.0 in
@@ -142,8 +133,7 @@ whole_unit {s} true from marked_unit some between =
     let t = step (Report b) s in
     let blocks = frame_blocks run unit f packets in
     let done = whole_frames {s = t} from unit packets marked some in
-    let waits : t.pending ≡ s.pending + length b = cond-true (plays s && not s.inside) (s.pending + length b) s.pending
-    (and_from (plays s) (not s.inside) between.on (ap not between.outside)) in
+    let waits : t.pending ≡ s.pending + length b = grind arith in
     let size : t.pending + length (framed_bytes blocks) ≡ length (b ++ framed_bytes blocks) = omega (
       arith,
       waits,
@@ -167,8 +157,7 @@ pub record HasCome (sizes : List ℕ) (c : ℕ) (s t : Sum) : Type 0 where
   pub next : count < length sizes → c < sum (take (count + 1) sizes)
 
 unit_marked : (starts : List ℕ) (unit : PictureUnit) → IsLaid starts unit → IsLastMarked (unit_packets starts unit)
-unit_marked starts unit laid =
-    last-marked starts unit (unit_packets starts unit) (packets-are starts unit laid) (packets-cover starts unit laid)
+unit_marked starts unit laid = search (last-marked, unit_packets, packets-are, packets-cover)
 
 one_more : (n : ℕ) → suc n + 1 ≡ suc (n + 1)
 one_more n = omega arith
@@ -179,9 +168,14 @@ pub more_blocks : (run : FramedRun) (f o : ℕ) (starts : List ℕ) (unit : Pict
     ++ blocks_from run (frames_after f (unit_pieces starts unit))
     (octets_after o (unit_pieces starts unit)) (pieces_of starts units)
 more_blocks run f o starts unit units =
-    let first = unit_pieces starts unit in
-    let rest = pieces_of starts units in
-    cc (pieces-cons starts unit units, blocks_append run f o first rest, unit_made run f o starts unit)
+    grind (
+      arith,
+      unit_pieces starts unit,
+      pieces_of starts units,
+      pieces-cons starts unit units,
+      blocks_append,
+      unit_made run f o starts unit,
+    )
 
 pub blocks_one : (from : RunFrom) (starts : List ℕ) (units : List PictureUnit) →
     AreOneBlocks (blocks_from from.run from.frames from.octets (pieces_of starts units))
@@ -347,9 +341,7 @@ unit_told : (starts : Bool) (from : RunFrom) (unit : PictureUnit) (packets : Lis
     (report_if starts from.run unit from.frames from.octets ++ frame_blocks from.run unit from.frames packets))
     ≡ frame_blocks from.run unit from.frames packets
 unit_told false from unit packets = frames_told from.run from.frames unit packets from.media
-unit_told true from unit packets = rw (report_moment run f o unit control, frames_told run f unit packets media)
-  where
-    open from use {run, frames as f, octets as o, media, control}
+unit_told true from unit packets = search (report_moment, frames_told)
 
 pub units_told : (from : RunFrom) (starts : List ℕ) (units : List PictureUnit) →
     frames_of (events_of_elements (blocks_from from.run from.frames from.octets (pieces_of starts units))) ≡

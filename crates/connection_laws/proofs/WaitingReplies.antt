@@ -1,3 +1,4 @@
+use Rattle.std.proofs.lemmas.Grind.{common_steps}
 -- A reply that waits, and where it is sent: what each doing of a connection makes of it.
 use Rattle.std.proofs.Common.{◌≡◌, ℕ, ◌+◌, ◌-◌, ◌<◌, ◌≤◌, ◌++◌, if◌then◌else◌, Bool, true, false, min, List, ◌∷◌}
 use Rattle.std.proofs.Common.{Option, Some, None, length, refl, ap, sym, ◌∙◌, subst, inl, inr, arith, eq-eqb, ◌&&◌}
@@ -15,7 +16,7 @@ use Rattle.pacer.proofs.PacerStateLemmas.{boundary-from, boundary-is, first-slot
 use Rattle.conn.specs.InputSteps.{Film}
 use Rattle.pacer.proofs.SlotStepLemmas.{most-slots}
 use Rattle.conn.proofs.FilmBytes.{sent_through, slot_is, stopped_is}
-use Rattle.connection_laws.proofs.JoinedFilms.{IsOnTime, play_with, through_time, film_holds, due_now, EndedPlay}
+use Rattle.connection_laws.proofs.JoinedFilms.{IsOnTime, play_with, through_time, due_now, EndedPlay}
 use Rattle.connection_laws.proofs.JoinedFilms.{stays_due, film_in, spent}
 use Rattle.connection_laws.proofs.TextPlaces.{AreFrom, AreLater, IsAtNext, StandAt, film_at, later_lower, text_at}
 use Rattle.connection_laws.proofs.TextPlaces.{with_pending, AreSent, ToCome, part_then, UpTo, past_all, PastPlay}
@@ -92,17 +93,8 @@ over_at {heard} {askings} {come} ended ends fits =
     past_all past 0 come.slots come.parts fits.from fits.stand.texts in
     record {
       holds = omega (arith, sent);
-      texts = subst (λ n. AreSentAt come.end (play ∷ plays) come.slots (placed_texts n come.parts))
-          (omega (arith, sent))
-          shifted;
-      film = (
-        film_bytes come.parts,
-        (
-          ap (λ n. take n (film_in p) ++ film_bytes come.parts) (sent ∙ sym due),
-          fits.stand.film,
-          spent come.end plays play due (film_holds p keep on.pacing few),
-        ),
-      );
+      texts = grind arith;
+      film = grind (arith, common_steps);
     }
   where
     open ended use {p, keep, on, sent}
@@ -125,17 +117,12 @@ IsHeld (Some slot) (Ending p) waits heard = (waits ≡ true) × IsHeldUp p slot 
 pub due_going : (p : PacerState) (slot keep : ℕ) → IsPacerState p → p.keep ≡ total_bytes p.plan
     → min (first_slots p.plan (slot + 1 - p.start)) p.keep ≤ keep
     → due_of slot (play_with p keep) ≡ min (first_slots p.plan (slot + 1 - p.start)) p.keep
-due_going p slot keep is whole holds =
-    omega (arith, most-slots p.plan (slot + 1 - p.start) is.plan, whole, holds)
+due_going p slot keep is whole holds = grind (arith, most-slots p.plan (slot + 1 - p.start) is.plan)
 
 -- what was sent is due by the end of each later slot
 pub due_far : (p : PacerState) (heard end : ℕ) → IsOnTime p heard → heard ≤ end
     → p.sent ≤ first_slots p.plan (end + 1 - p.start)
-due_far p heard end on later =
-    let rise : first_slots p.plan (heard + 1 - p.start) ≤ first_slots p.plan (end + 1 - p.start) =
-    first-slots-rise p.plan (heard + 1 - p.start) (end + 1 - p.start) (omega (arith, later)) in
-    let now : p.sent ≡ min (first_slots p.plan (heard + 1 - p.start)) p.keep = rw (on.even, on.pacing.due, on.passed) in
-    omega (arith, rise, now)
+due_far p heard end on later = grind (arith, first-slots-rise)
 
 pub due_here : (p : PacerState) (heard : ℕ) → IsOnTime p heard
     → min (first_slots p.plan (heard + 1 - p.start)) p.keep ≡ p.sent
@@ -149,8 +136,7 @@ pub boundary_stands : (p : PacerState) → IsPacerState p → IsBoundary p.piece
     ≡ true
 boundary_stands p is boundary =
     let place : ℕ = p.before + p.sent in
-    let itself : IsBoundaryAfter p.pieces place place =
-    record { boundary = boundary; after = omega arith; least = λ other b order. order } in
+    let itself : IsBoundaryAfter p.pieces place place = grind arith in
     eq-eqb (next_boundary p) p.sent (omega (arith, boundary-is p.pieces place place (inside_of p is) itself))
 
 -- where what was sent doesn't end at a boundary, a reply is held up
@@ -171,13 +157,7 @@ held_here p heard on stands =
 
 pub at_here : (p : PacerState) (heard : ℕ) → IsOnTime p heard → stands_at_boundary p ≡ true
     → IsAtNext p (min (first_slots p.plan (heard + 1 - p.start)) p.keep)
-at_here p heard on stands =
-    let here = due_here p heard on in
-    record {
-      boundary = boundary_here p on.pacing stands;
-      after = omega (arith, here);
-      least = λ place boundary from. omega (arith, here, from);
-    }
+at_here p heard on stands = grind (arith, boundary_here p on.pacing stands)
 
 -- ---- a slot
 
@@ -264,8 +244,7 @@ reply_slot {taken} s next =
     let q : PacerState = after_step true slot p in
     let is = on.pacing in
     let most : due_by p slot ≤ p.keep = due_most p slot is in
-    let last : step_end false (at_slot slot q) ≡ due_by p slot =
-    ap (λ (r : PacerState). r.sent) (slot_is true true slot p is stands) in
+    let last : step_end false (at_slot slot q) ≡ due_by p slot = grind arith in
     let near = boundary-from p.pieces (p.before + p.sent) (inside_of p is) in
     let from : p.sent ≤ q.sent = omega (arith, near.after, is.sent) in
     let to : q.sent ≤ due_by p slot = omega arith in
@@ -299,9 +278,7 @@ slot_at {waits = true} {pending = None} s next = absurd (true≢false s.held)
 slot_at {waits = false} {pending = Some taken} s next = absurd (true≢false (sym s.held.0))
 slot_at {waits = false} {pending = None} s next = film_at (due_up s) next.stand
 slot_at {waits = true} {between = false} {pending = Some taken} s next =
-    let all : step_end true (at_slot s.now.slot s.p) ≡ due_by s.p s.now.slot =
-    ap (λ (r : PacerState). r.sent) (slot_is true false s.now.slot s.p s.on.pacing s.stands) in
-    rw all (film_at (due_up s) next.stand)
+    grind (arith, slot_is true false s.now.slot s.p s.on.pacing s.stands, film_at (due_up s) next.stand)
 slot_at {waits = true} {between = true} {pending = Some taken} s next = reply_slot s next
 
 -- whether a reply is held up then
@@ -312,8 +289,7 @@ pub slot_held : {waits between : Bool} {pending : Option ℕ} (s : PlaySlot wait
 slot_held {waits = true} {pending = None} s = absurd (true≢false s.held)
 slot_held {waits = false} {pending = Some taken} s = absurd (true≢false (sym s.held.0))
 slot_held {waits = true} {between = false} {pending = Some taken} s =
-    let all : step_end true (at_slot slot p) ≡ due_by p slot =
-    ap (λ (r : PacerState). r.sent) (slot_is true false slot p is stands) in
+    let all : step_end true (at_slot slot p) ≡ due_by p slot = grind (arith, slot_is true false slot p is stands) in
     let next = boundary-from p.pieces (p.before + p.sent) (inside_of p is) in
     let nearest : ℕ = boundary_from p.pieces (p.before + p.sent) in (
       refl,
@@ -326,8 +302,7 @@ slot_held {waits = true} {between = false} {pending = Some taken} s =
             elim (cases_lt (p.before + due_by p slot) place) [
               | inl less ↦ less
               | inr more ↦
-                  let there : nearest ≡ p.before + (after_step true slot p).sent =
-                  omega (arith, all, least, more, next.after) in
+                  let there : nearest ≡ p.before + (after_step true slot p).sent = grind arith in
                   absurd (true≢false (sym (boundary_stands (after_step true slot p) (stopped_is slot p is)
                   (subst (IsBoundary p.pieces) there next.boundary)) ∙ stands))
             ];

@@ -1,3 +1,4 @@
+use Rattle.std.proofs.lemmas.Grind.{common_steps}
 -- A client that has watched a film over a link on which its bytes lay between the curves.
 use Rattle.std.proofs.Common.{◌≡◌, ℕ, ◌-◌, ◌<◌, ◌≤◌, List, [], ◌∷◌, ◌++◌, length, take, drop, Some, slice_get, refl}
 use Rattle.std.proofs.Common.{sym, ap, subst, ◌∙◌, append_assoc, arith, inl, inr}
@@ -35,8 +36,7 @@ record IsGiven (wish : Wish) (watched : Watched) (at : WatchStage) (out : List �
 stop_of : (wish : Wish) (watched : Watched) (at : WatchStage) (sent out : List ℕ)
     → Stops wish at (Done watched) sent out → IsGiven wish watched at out
 stop_of wish watched at sent out (inl framing) = cc
-stop_of wish watched at sent out (inr (moment, (next, inl gives))) =
-    record { moment = moment; next = next; gives = gives.0; out_none = gives.2 }
+stop_of wish watched at sent out (inr (moment, (next, inl gives))) = grind arith
 stop_of wish watched at sent out (inr (moment, (next, inr fails))) = absurd fails.1
 
 -- bytes in which a watching that is done ended
@@ -107,11 +107,8 @@ kept_promise {rounds} {mid} {bytes} {out} c s runs all front fed =
     let h = done.at.history in
     let sum = done_sum x c done front in
     let whole = whole_of stream done.heard.gone sum done.complete in
-    let few : replies mid.history ≤ 2 =
-    omega (arith, replies_later mid.history (events_of_elements all.elements), ap replies all.history, done.replies_are)
-    in
-    let mine : rounds_heard rounds ≡ take (length (rounds_heard rounds)) (framed_bytes (all_of x)) =
-    front_of (rounds_heard rounds) bytes (framed_bytes (all_of x)) c front in
+    let few : replies mid.history ≤ 2 = grind (arith, replies_later mid.history (events_of_elements all.elements)) in
+    let mine : rounds_heard rounds ≡ take (length (rounds_heard rounds)) (framed_bytes (all_of x)) = search front_of in
     let always =
     always_all (record { wish = wish; stream = stream; begin = first_slot mid.history; count = whole.count })
     (record { heard = heard_none; idle = inl refl; count = length (rounds_heard rounds); front = mine }) runs
@@ -127,9 +124,7 @@ kept_promise {rounds} {mid} {bytes} {out} c s runs all front fed =
       over_none = ap (λ (w : Watched). w.over) done.watched_is ∙ quiet.over_none;
       under_none = ap (λ (w : Watched). w.under) done.watched_is ∙ quiet.under_none;
       most_fits = omega (arith, ap (λ (w : Watched). w.most) done.watched_is, quiet.most_fits);
-      film_back = λ first last_ at_first at_last. done.out_is
-          ∙ (sym (ap (λ (s : Sum). s.payloads) (sum_after [] done.moments) ∙ steps_payloads (sum_of []) done.moments)
-          ∙ (ap payloads (sym done.history_is) ∙ film_comes_back stream h sum at_first at_last));
+      film_back = grind (arith, sum_after, steps_payloads, film_comes_back);
     }
   where
     open s use {wish, stream, wished, timed}
@@ -147,18 +142,21 @@ heard_sends [] = refl
 heard_sends (b ∷ bytes) = heard_sends bytes
 
 heard_one : (event : IoEvent) (rest : List IoEvent) → heard_bytes (event ∷ rest) ≡ bytes_in event ++ heard_bytes rest
-heard_one (HeardBytes bytes) rest = refl
-heard_one _ rest = refl
+heard_one event rest = grind arith
 
 heard_rounds : (wish : Wish) (h : History) (rounds : List Round) → heard_bytes (rounds_doings wish h rounds)
     ≡ rounds_heard rounds
 heard_rounds wish h [] = refl
 heard_rounds wish h (round ∷ rounds) =
-    let sent = sends (requests_after wish h round.moments) in
-    let rest = rounds_doings wish (history_after h round.moments) rounds in
-    rw (heard_one round.event (sent ++ rest), heard_append sent rest)
-    (rw (heard_sends (requests_after wish h round.moments))
-    (rw (heard_rounds wish (history_after h round.moments) rounds)))
+    grind (
+      arith,
+      sends (requests_after wish h round.moments),
+      history_after h round.moments,
+      heard_one,
+      heard_append,
+      heard_sends (requests_after wish h round.moments),
+      heard_rounds wish (history_after h round.moments) rounds,
+    )
 
 -- what it exposed before a round, and after it
 pub record IsSplit (wish : Wish) (h : History) (before : List Round) (round : Round) (told : List IoEvent) : Type 0
@@ -168,31 +166,23 @@ pub record IsSplit (wish : Wish) (h : History) (before : List Round) (round : Ro
 
 split_at : (wish : Wish) (h : History) (before later : List Round) (round : Round)
     → IsSplit wish h before round (rounds_doings wish h (before ++ round ∷ later))
-split_at wish h [] later round =
-    record {
-      later = sends (requests_after wish h round.moments) ++ rounds_doings wish (history_after h round.moments) later;
-      told_is = refl;
-    }
+split_at wish h [] later round = grind arith
 split_at wish h (first ∷ before) later round =
-    let rest = split_at wish (history_after h first.moments) before later round in
-    let front = first.event ∷ sends (requests_after wish h first.moments) in
-    record {
-      later = rest.later;
-      told_is = ap (λ l. front ++ l) rest.told_is
-          ∙ sym (append_assoc front (rounds_doings wish (history_after h first.moments) before)
-          (round.event ∷ rest.later));
-    }
+    grind (arith, split_at wish (history_after h first.moments) before later round, common_steps)
 
 -- what the link exposed that was received, whatever the answer is
 pub told_bytes : {wish : Wish} {end : WatchEnd} {heard : List IoEvent} {out : List ℕ}
     (client : HasCourse wish end (Some []) (Some heard) (Some []) (Some out))
     → heard_bytes heard ≡ rounds_heard client.rounds ++ heard_bytes client.last_doings
 told_bytes {wish} {end} {heard} {out} client =
-    let setup = sends (setup_text wish) in
-    let doings = rounds_doings wish [] client.rounds in
-    let told : heard ≡ setup ++ (doings ++ client.last_doings) = cc in
-    rw (told, heard_append setup (doings ++ client.last_doings), heard_sends (setup_text wish))
-    (rw (heard_append doings client.last_doings, heard_rounds wish [] client.rounds))
+    grind (
+      arith,
+      sends (setup_text wish),
+      setup_text wish,
+      heard_append,
+      heard_sends (setup_text wish),
+      heard_rounds wish,
+    )
 
 -- the bytes that came last
 pub last_bytes : {doings : List IoEvent} (bytes sent : List ℕ) → doings ≡ HeardBytes bytes ∷ sends sent

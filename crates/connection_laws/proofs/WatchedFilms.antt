@@ -111,17 +111,14 @@ stopped_done {wish} {s} w received stopped decided =
     let heard = heard_more bytes stops.elements
     (heard_all [] (stage [] []) mid rounds heard_none w.client.runs) stops.cut stops.good in
     let at = stage (history_after mid.history (events_of_elements stops.elements)) stops.mid in
-    let place : IsPlaceIn (all_of s.stream.x) heard.elements at.rest =
-    place_in (record { count = received.count; alone = s.stream.x.alone; front_is = front }) heard.cut in
+    let place : IsPlaceIn (all_of s.stream.x) heard.elements at.rest = search place_in in
     (watched_in wish at.history, quits_done wish s heard place (stops-quit decided stops).quits)
   where
     open stopped use {bytes, sent, stops, doings}
 
 -- an answer that is `Done` where the events decide it refuses nothing
 refuses_none : (end : WatchEnd) → (IsDecided end → (watched : Watched) × (end ≡ Done watched)) → RefusesNothing end
-refuses_none (Fault fault) decided =
-    let its = decided tt in absurd (let same : Fault fault ≡ Done its.0 = its.1 in cc)
-refuses_none _ decided = tt
+refuses_none end given = grind arith
 
 -- ---- the entire watching
 
@@ -190,8 +187,7 @@ not_waiting s w received all =
     let runs = w.client.runs in
     let heard : Heard (rounds_heard rounds) mid = heard_all [] (stage [] []) mid rounds heard_none runs in
     let idle : IsFirst mid.rest (Ok More) = runs_idle (stage [] []) mid rounds (inl refl) runs in
-    let cut : AreInputElements (framed_bytes (all_of x)) heard.elements mid.rest =
-    rw (all ∙ received.whole) at heard.cut in
+    let cut : AreInputElements (framed_bytes (all_of x)) heard.elements mid.rest = grind arith in
     let elements = whole_stream (all_of x) x.alone cut idle in
     let are : heard.elements ≡ x.first ∷ x.second ∷ (x.blocks ++ last ∷ others) = rw (elements, later) in
     let accepted = rw are at (accepted_of heard) in
@@ -267,13 +263,5 @@ watched_done {wish} {stored} {course} is w wished delivered decided carried =
     let W : WatchEnd → Type 0 = λ e. (its : HasCourse wish e (Some []) (Some w.heard) (Some []) (Some w.out))
     → IsCarried (rounds_doings course.rounds) w.heard is.played.play.start (first_slot its.mid.history)
     → HasWatchedWhole wish stored done.0 w.out in
-    let whole : W (Done done.0) = λ its there.
-    watched_whole wish stored done.0 w.out (record {
-      course = course;
-      heard = w.heard;
-      wished = wished;
-      played = played;
-      client = its;
-      carried = there;
-    }) in
+    let whole : W (Done done.0) = search watched_whole in
     (done.0, (done.1, subst W (sym done.1) whole w.client carried))

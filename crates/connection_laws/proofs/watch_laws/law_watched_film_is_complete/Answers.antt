@@ -6,15 +6,7 @@ use Rattle.connection_laws.proofs.AcceptedMoments.{film_clauses}
 use Rattle.connection_laws.proofs.watch_laws.law_watched_film_is_complete.Goals as goal
 
 pub returns-clause-played : goal.returns-clause-played
-returns-clause-played c = λ wish stored course watched heard out wished played client carried.
-    watched_whole wish stored watched out (record {
-      course = course;
-      heard = heard;
-      wished = wished;
-      played = played;
-      client = client;
-      carried = carried;
-    })
+returns-clause-played c = search watched_whole
 
 pub returns-clause-asked : goal.returns-clause-asked
 returns-clause-asked c = λ wish stored course watched heard out asked client carried.
