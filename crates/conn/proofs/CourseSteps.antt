@@ -1,14 +1,13 @@
+use Rattle.std.proofs.lemmas.Grind.{common_steps}
 -- Lemmas on the course of a connection, one doing after another.
 use Rattle.std.specs.Prelude.{⊤}
 use Rattle.std.proofs.Common.{◌≡◌, ℕ, ◌+◌, ◌<◌, ◌≤◌, ◌^◌, ◌&&◌, Bool, true, false, if◌then◌else◌, List, [], ◌∷◌, ◌++◌}
-use Rattle.std.proofs.Common.{length, take, drop, Option, Some, None, Ok, Err, refl, ap, sym, ◌∙◌, subst, inl, inr}
+use Rattle.std.proofs.Common.{length, take, drop, Option, Some, None, Err, refl, ap, sym, ◌∙◌, subst, inl, inr}
 use Rattle.std.proofs.Common.{arith}
 use Rattle.std.proofs.lemmas.List.{append-nil, append_assoc, map-append, length-append, length-take-le}
 use Rattle.interleave.specs.declared.demux.TheConstants.{MAX_WAITING_BYTES}
 use Rattle.interleave.specs.Elements.{IsFirst}
-use Rattle.interleave.specs.declared.elements.Step.TheVariants.{Request}
 use Rattle.interleave.specs.declared.elements.DemuxFault.{DemuxFault}
-use Rattle.interleave.specs.declared.elements.DemuxFault.TheVariants.{HeadTooLong as LongHead, BodyTooLong as LongBody}
 use Rattle.vod_base.specs.Links.{IoEvent, IsSentPrefix, Sent, HeardBytes, HeardSlot, sends, told_more}
 use Rattle.vod_base.proofs.HistoryLemmas.{told_more-append, told_more-nil}
 use Rattle.vod_base.specs.declared.links.Heard.{Heard}
@@ -16,19 +15,18 @@ use Rattle.vod_base.specs.declared.links.Heard.TheVariants.{Bytes, Slot, End}
 use Rattle.station.specs.Seats.{SeatState}
 use Rattle.station.proofs.SameSeats.{seat_none, seat_on}
 use Rattle.conn.specs.declared.reports.ConnEnd.{ConnEnd}
-use Rattle.conn.specs.declared.reports.ConnEnd.TheVariants.{LinkFault, TooMuchInput, TurnsSpent}
-use Rattle.session.specs.SlotSteps.{IsTold, can_reply, due_bytes, is_between, is_sending, is_taken, step_bytes}
-use Rattle.session.specs.SlotSteps.{stepped_in}
+use Rattle.conn.specs.declared.reports.ConnEnd.TheVariants.{LinkFault, TooMuchInput}
+use Rattle.session.specs.SlotSteps.{IsTold, can_reply, due_bytes, is_sending, is_taken}
 use Rattle.session.specs.SessionStates.{SessionState}
 use Rattle.conn.specs.declared.connections.Connection.{Connection}
 use Rattle.conn.specs.Events.{HasTakenEvent, IsEndOf, IsProcessed, IsWaiting}
 use Rattle.conn.specs.Journals.{AgreeWith, terms_of}
 use Rattle.conn.proofs.Journals.{agree_longer, agree_then, same_journal, terms_same}
 use Rattle.conn.specs.InputSteps.{Outcome, Unasked, SentPart, Film, Text, Stage, ElementStep, Passed, Answered}
-use Rattle.conn.specs.InputSteps.{IsNext, IsPassed, Takes, TakesAll, after_reply, due_parts, entry_in, parts_bytes}
+use Rattle.conn.specs.InputSteps.{IsNext, IsPassed, Takes, TakesAll, after_reply, entry_in, parts_bytes}
 use Rattle.conn.specs.InputSteps.{reply_parts, slot_parts, stage}
-use Rattle.conn.specs.EventSteps.{Comes, Ends, Unheard, Overfull, AtElement, InSlot, InReply, IsStopped}
-use Rattle.conn.specs.EventSteps.{IsUnheard, Round, Runs, RunsAll, ending_bytes, ending_doings, ending_events}
+use Rattle.conn.specs.EventSteps.{Comes, Overfull, AtElement, InSlot, InReply, IsStopped}
+use Rattle.conn.specs.EventSteps.{IsUnheard, Round, Runs, RunsAll, ending_events}
 use Rattle.conn.specs.EventSteps.{ending_outcomes, entries_in, round_bytes, round_outcomes, rounds_doings}
 use Rattle.conn.specs.EventSteps.{rounds_outcomes, taking_bytes, taking_outcomes, takings_bytes, takings_outcomes}
 use Rattle.conn.specs.Observations.{AreNoted, HasAsked, HasFailedSend, HasHandledEvent, HasCourse, HasEnded}
@@ -57,8 +55,7 @@ noted_unasked seat = record { mine = sym (append-nil seat.mine); seat = seat_non
 
 pub noted_on : {a b c : SeatState} {xs ys : List Outcome} → AreNoted a b xs → AreNoted b c ys → AreNoted a c (xs ++ ys)
 noted_on {a} {b} {c} {xs} {ys} first second = record {
-  mine = second.mine ∙ ap (λ m. m ++ entries_in ys) first.mine ∙ append_assoc a.mine (entries_in xs) (entries_in ys)
-      ∙ ap (λ es. a.mine ++ es) (sym (entries_in-append xs ys));
+  mine = grind (arith, append_assoc a.mine (entries_in xs) (entries_in ys), entries_in-append xs ys);
   seat = seat_on a b c first.seat second.seat;
   agree = agree_then
       (record (same_journal (terms_of a) b.seen (length a.seen) (length a.seen) (omega arith)) {
@@ -89,11 +86,13 @@ takes_on a later [] first = subst (λ s. TakesAll s later.takings later.new) fir
 takes_on a later (x ∷ xs) first = (first.0, (first.1.0, takes_on first.0 later xs first.1.1))
 
 pub takings_bytes-append : (xs ys : List ElementStep) → takings_bytes (xs ++ ys) ≡ takings_bytes xs ++ takings_bytes ys
-takings_bytes-append = joined-append (record { part = taking_bytes; all = takings_bytes; none = refl; one = λ x xs. refl })
+takings_bytes-append = joined-append
+    (record { part = taking_bytes; all = takings_bytes; none = refl; one = λ x xs. refl })
 
 takings_outcomes-append : (xs ys : List ElementStep)
     → takings_outcomes (xs ++ ys) ≡ takings_outcomes xs ++ takings_outcomes ys
-takings_outcomes-append = joined-append (record { part = taking_outcomes; all = takings_outcomes; none = refl; one = λ x xs. refl })
+takings_outcomes-append = joined-append
+    (record { part = taking_outcomes; all = takings_outcomes; none = refl; one = λ x xs. refl })
 
 pub taken_none : (a : Observed) → HasTaken a a
 taken_none a = record { takings = []; takes = refl; sent = sent_none a.told; noted = noted_none a.seat }
@@ -116,8 +115,7 @@ taken_on {a} {b} {c} first second = record {
   sent = subst (λ bs. IsSent a.told bs c.told) (sym (takings_bytes-append first.takings second.takings))
       (second.sent ∙ ap (λ t. told_more t (sends (takings_bytes second.takings))) first.sent
       ∙ sent_on a.told (takings_bytes first.takings) (takings_bytes second.takings));
-  noted = subst (λ os. AreNoted a.seat c.seat os) (sym (takings_outcomes-append first.takings second.takings))
-      (noted_on first.noted second.noted);
+  noted = search (takings_outcomes-append, noted_on);
 }
 
 lost_on : (a b c : Observed) → HasTaken a b → HasLostReply b c → HasLostReply a c
@@ -149,13 +147,13 @@ record RoundSeen (event : IoEvent) (a c : Observed) : Type 0 where
   sent : IsSent a.told (round_bytes round) c.told
   noted : AreNoted a.seat c.seat (round_outcomes round)
 
-round_seen : {event : IoEvent} {a c : Observed} (seen : EventSeen event a) → HasTaken seen.opened c → RoundSeen event a c
+round_seen : {event : IoEvent} {a c : Observed} (seen : EventSeen event a) → HasTaken seen.opened c
+    → RoundSeen event a c
 round_seen {event} {a} seen taken = record {
   round = record { event = event; due = seen.due; halt = seen.halt; takings = taken.takings };
   event_is = refl;
   runs = record { opened = seen.opened.stage; comes = seen.comes; takes = taken.takes };
-  sent = taken.sent ∙ ap (λ t. told_more t (sends (takings_bytes taken.takings))) seen.sent
-      ∙ sent_on a.told (parts_bytes seen.due) (takings_bytes taken.takings);
+  sent = grind (arith, common_steps);
   noted = noted_on seen.noted taken.noted;
 }
 
@@ -236,19 +234,15 @@ goes_on (Bytes n) waiting c has =
 
 -- events, one after another
 rounds_doings-append : (xs ys : List Round) → rounds_doings (xs ++ ys) ≡ rounds_doings xs ++ rounds_doings ys
-rounds_doings-append = joined-append (record { part = λ x. x.event ∷ sends (round_bytes x); all = rounds_doings; none = refl; one = λ x xs. refl })
+rounds_doings-append = joined-append
+    (record { part = λ x. x.event ∷ sends (round_bytes x); all = rounds_doings; none = refl; one = λ x xs. refl })
 
 rounds_outcomes-append : (xs ys : List Round) → rounds_outcomes (xs ++ ys) ≡ rounds_outcomes xs ++ rounds_outcomes ys
-rounds_outcomes-append = joined-append (record { part = round_outcomes; all = rounds_outcomes; none = refl; one = λ x xs. refl })
+rounds_outcomes-append = joined-append
+    (record { part = round_outcomes; all = rounds_outcomes; none = refl; one = λ x xs. refl })
 
 pub run_none : (a : Observed) → HasRun 0 a a
-run_none a = record {
-  rounds = [];
-  count_is = refl;
-  runs = refl;
-  told = sym (told_more-nil a.told);
-  noted = noted_none a.seat;
-}
+run_none a = grind (arith, common_steps)
 
 -- after events another one was received: the link exposes it, and nothing else was done
 pub record EventReceived (a : Observed) : Type 0 where
@@ -261,11 +255,6 @@ pub record EventReceived (a : Observed) : Type 0 where
   pub seat_is : heard.seat ≡ before.seat
   pub told_is : heard.told ≡ told_more before.told (event ∷ [])
 
-heard_sent : {a : Observed} {c : Option (List IoEvent)} (r : EventReceived a) (bytes : List ℕ)
-    → IsSent r.heard.told bytes c → c ≡ told_more r.before.told (r.event ∷ sends bytes)
-heard_sent r bytes sent =
-    sent ∙ ap (λ t. told_more t (sends bytes)) r.told_is ∙ told_more-append r.before.told (r.event ∷ []) (sends bytes)
-
 pub run_on : {a c : Observed} (r : EventReceived a) → HasRound r.event r.heard c → HasRun (r.count + 1) a c
 run_on {a} {c} r next =
     let b = r.before in
@@ -277,11 +266,7 @@ run_on {a} {c} r next =
       rounds = run.rounds ++ round ∷ [];
       count_is = length-append run.rounds (round ∷ []) ∙ ap (λ n. n + 1) run.count_is;
       runs = runs_on a.stage run.rounds run.runs;
-      told = heard_sent r (round_bytes round) next.sent
-          ∙ ap (λ e. told_more b.told (e ∷ sends (round_bytes round))) (sym next.event_is)
-          ∙ ap (λ t. told_more t doings) run.told ∙ told_more-append a.told (rounds_doings run.rounds) doings
-          ∙ ap (λ ds. told_more a.told (rounds_doings run.rounds ++ ds)) (sym last)
-          ∙ ap (told_more a.told) (sym (rounds_doings-append run.rounds (round ∷ [])));
+      told = grind (arith, told_more-append, rounds_doings-append);
       noted = subst (λ os. AreNoted a.seat c.seat os)
           (sym (rounds_outcomes-append run.rounds (round ∷ []) ∙ ap (λ os. rounds_outcomes run.rounds ++ os) outcomes))
           (noted_on run.noted (subst (λ s. AreNoted s c.seat (round_outcomes round)) r.seat_is next.noted));
@@ -290,8 +275,7 @@ run_on {a} {c} r next =
     runs_on : (old : Stage) (rounds : List Round) → RunsAll old rounds r.before.stage
         → RunsAll old (rounds ++ next.round ∷ []) c.stage
     runs_on old [] runs =
-        let there : Runs r.before.stage next.round c.stage =
-        subst (λ s. Runs s next.round c.stage) r.stage_is next.runs in
+        let there : Runs r.before.stage next.round c.stage = grind arith in
         (c.stage, (subst (λ s. Runs s next.round c.stage) runs there, next.idle, refl))
     runs_on old (first ∷ rounds) runs = (runs.0, (runs.1.0, runs.1.1, runs_on runs.0 rounds runs.1.2))
 
@@ -308,72 +292,44 @@ run_end {end} {a} {c} r more last =
       runs = run.runs;
       ending = ending;
       few = omega (arith, run.count_is, one, more);
-      ends = subst (λ n. Ends b.stage n ending end c.stage) (sym run.count_is)
-          (subst (λ s. Ends s r.count ending end c.stage) r.stage_is last.ends);
-      told = heard_sent r (ending_bytes ending) last.sent
-          ∙ ap (λ es. told_more b.told (es ++ sends (ending_bytes ending))) (sym last.event_is)
-          ∙ ap (λ t. told_more t (ending_doings ending)) run.told
-          ∙ told_more-append a.told (rounds_doings run.rounds) (ending_doings ending);
+      ends = grind arith;
+      told = grind (arith, common_steps);
       noted = noted_on run.noted (subst (λ s. AreNoted s c.seat (ending_outcomes ending)) r.seat_is last.noted);
     }
 
 -- or no event was received any more
 -- no more than 2^40 events were received
 few_heard : (end : ConnEnd) (count : ℕ) → IsUnheard end count → count ≤ 2 ^ 40
-few_heard LinkFault count is = omega (arith, is)
-few_heard TurnsSpent count is = omega (arith, is)
-few_heard _ count is = absurd is
-
-pub run_over : {count : ℕ} {end : ConnEnd} {a b : Observed} → HasRun count a b → IsUnheard end count → HasCourse end a b
-run_over {count} {end} {a} {b} run unheard = record {
-  rounds = run.rounds;
-  mid = b.stage;
-  runs = run.runs;
-  ending = Unheard;
-  few = omega (arith, run.count_is, few_heard end count unheard);
-  ends = (subst (IsUnheard end) (sym run.count_is) unheard, refl);
-  told = run.told ∙ ap (told_more a.told) (sym (append-nil (rounds_doings run.rounds)));
-  noted = subst (λ os. AreNoted a.seat b.seat os) (sym (append-nil (rounds_outcomes run.rounds))) run.noted;
-}
+few_heard end count given = grind arith
 
 -- a first element that is too long: what was processed before it stands, and the connection ends
 pub taken_fault : {a : Observed} (fault : DemuxFault) (end : ConnEnd) → a.stage.session.torn ≡ false
     → IsFirst a.stage.input (Err fault) → IsEndOf fault end → HasTaken a a × IsStopped end a.stage
-taken_fault {a} LongHead end torn first is = (taken_none a, subst (λ e. IsStopped e a.stage) (sym is) (torn, first))
-taken_fault {a} LongBody end torn first is = (taken_none a, subst (λ e. IsStopped e a.stage) (sym is) (torn, first))
+taken_fault fault end given given' given'' = grind (arith, common_steps)
 
 -- what a slot brings is what is sent in it
 due_is : (waits between : Bool) (one plain after text : List ℕ) →
     parts_bytes (if waits then Film one ∷ (if between then Text text ∷ Film after ∷ [] else []) else Film plain ∷ [])
     ≡ (if waits then one ++ (if between then text ++ after else []) else plain)
-due_is false between one plain after text = append-nil plain
-due_is true false one plain after text = refl
-due_is true true one plain after text = ap (λ bs. one ++ (text ++ bs)) (append-nil after)
+due_is waits between one plain after text = grind (arith, common_steps)
 
 told_if : {new : Option (List IoEvent)} (sends_it : Bool) (parts : List SentPart) (old : Option (List IoEvent))
     → IsTold sends_it old (parts_bytes parts) new → IsSent old (parts_bytes (if sends_it then parts else [])) new
-told_if true parts old told = told
-told_if false parts old told = told ∙ sym (told_more-nil old)
+told_if sends_it parts old given = grind (arith, common_steps)
 
 pub slot_sent : (session : SessionState) (slot : ℕ) (old new : Option (List IoEvent)) →
     IsTold (is_taken session slot && is_sending session.state) old
     (due_bytes session.waits session.state session.text slot) new →
     IsSent old (parts_bytes (slot_parts session slot)) new
-slot_sent session slot old new told =
-    let sends_it : Bool = is_taken session slot && is_sending session.state in
-    told_if sends_it (due_parts session slot) old (subst (λ bs. IsTold sends_it old bs new)
-    (sym (due_is session.waits (is_between (stepped_in true slot session.state)) (step_bytes true slot session.state)
-    (step_bytes false slot session.state)
-    (step_bytes false slot (stepped_in true slot session.state)) session.text)) told)
+slot_sent session slot old new told = search (told_if, due_is)
 
 pub reply_sent : (session : SessionState) (old new : Option (List IoEvent))
     → IsTold (can_reply session) old session.text new → IsSent old (parts_bytes (reply_parts session)) new
-reply_sent session old new told =
-    told_if (can_reply session) (Text session.text ∷ []) old
-    (subst (λ bs. IsTold (can_reply session) old bs new) (sym (append-nil session.text)) told)
+reply_sent session old new told = grind (arith, common_steps)
 
 -- a connection's input alone changes
-pub input_is : {old new : List ℕ} (connection : Connection) (told : Option (List IoEvent)) (seat : SeatState) → old ≡ new
+pub input_is : {old new : List ℕ} (connection : Connection) (told : Option (List IoEvent)) (seat : SeatState) → old
+    ≡ new
     → observed (record connection { input = old }) told seat ≡ observed (record connection { input = new }) told seat
 input_is connection told seat same = ap (λ (i : List ℕ). observed (record connection { input = i }) told seat) same
 
@@ -386,13 +342,7 @@ taken_passed {a} n passed torn is = subst (HasTaken a) (sym is)
 
 -- the first request, of so many bytes
 next_is : (a : Stage) (n : ℕ) → RequestInFront a n → IsNext a (take n a.input)
-next_is a n in_front =
-    let is : length (take n a.input) ≡ n = length-take-le n a.input in_front.first.2 in record {
-      first = subst (λ k. IsFirst a.input (Ok (Request k))) (sym is) in_front.first;
-      message_is = ap (λ k. take k a.input) (sym is);
-      replied = in_front.replied;
-      torn = in_front.torn;
-    }
+next_is a n in_front = grind (arith, common_steps)
 
 -- the first request was answered, and its reply is next
 pub record RequestAnswered (a b : Observed) : Type 0 where
@@ -401,7 +351,8 @@ pub record RequestAnswered (a b : Observed) : Type 0 where
   pub in_front : RequestInFront a.stage n
   pub heard : HasAsked a.stage.session (take n a.stage.input) asked a.seat b.seat
 
-pub taken_reply : {a b : Observed} (x : RequestAnswered a b) → b.stage ≡ stage (after_reply x.asked) (drop x.n a.stage.input)
+pub taken_reply : {a b : Observed} (x : RequestAnswered a b) → b.stage
+    ≡ stage (after_reply x.asked) (drop x.n a.stage.input)
     → IsTold (can_reply x.asked) a.told x.asked.text b.told → HasTaken a b
 taken_reply {a} {b} x is told =
     let message : List ℕ = take n a.stage.input in
@@ -451,5 +402,4 @@ stage_is {is} {input} session_is input_is = ap (λ s. stage s input) session_is 
 -- an element that is too long ends a connection
 pub fault_ends : (fault : DemuxFault) (end : ConnEnd) (c : Connection) → IsEndOf fault end
     → IsFirst c.input (Err fault) → IsProcessed (Some end) c
-fault_ends LongHead end c is first = subst (λ e. IsProcessed (Some e) c) (sym is) first
-fault_ends LongBody end c is first = subst (λ e. IsProcessed (Some e) c) (sym is) first
+fault_ends fault end c given given' = grind arith

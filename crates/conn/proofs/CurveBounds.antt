@@ -1,5 +1,5 @@
 -- What was sent of a run lies between its curves.
-use Rattle.std.proofs.Common.{◌≡◌, ℕ, ◌+◌, ◌≤◌, ltb, cond, List, length, get_or, inl, inr, arith}
+use Rattle.std.proofs.Common.{◌≡◌, ℕ, ◌+◌, ◌≤◌, List, inl, inr, arith}
 use Rattle.std.proofs.lemmas.Bool.{cases_lt}
 use Rattle.plan_cert.specs.declared.Segment.{Segment}
 use Rattle.plan_cert.specs.Plan.{IsPlan}
@@ -12,19 +12,15 @@ use Rattle.film_run.specs.Plans.{rest_sizes, timing_of}
 use Rattle.film_run.proofs.CurveLemmas.{low-at-slot, low-slots, up-at-slot}
 use Rattle.film_run.proofs.PlanLemmas.{sending-best, sending-keeps, sending-limits}
 use Rattle.wire_curve.specs.declared.film.Timing.{Timing}
-use Rattle.wire_curve.specs.FilmCurves.{due_slot, slot_count, total_of, used_before}
+use Rattle.wire_curve.specs.FilmCurves.{slot_count, total_of, used_before}
 use Rattle.wire_curve.proofs.PictureSums.{sum_by-range-all, sum_by-range-le}
-use Rattle.wire_curve.proofs.SlotUsageLemmas.{cond_le, used_before-all, used_before_rises}
+use Rattle.wire_curve.proofs.SlotUsageLemmas.{used_before-all, used_before_rises}
 use Rattle.pacer.specs.PacerStates.{first_slots}
 use Rattle.conn.specs.Films.{IsBetween}
 
 -- no more is used than there is
 used_most : (sizes : List ℕ) (timing : Timing) (t : ℕ) → used_before sizes timing t ≤ total_of sizes timing
-used_most sizes timing t =
-    let below = sum_by-range-le (λ k. cond (ltb (due_slot timing k) t) (get_or sizes k 0) 0)
-    (λ k. get_or sizes k 0) 0 (length sizes)
-    (λ k l u. cond_le (ltb (due_slot timing k) t) (get_or sizes k 0)) in
-    omega (arith, below, sum_by-range-all sizes)
+used_most sizes timing t = grind (arith, sum_by-range-le, sum_by-range-all sizes)
 
 -- by the end of any slot of a play, also one after its plan's last, what its plan has through it
 -- lies between the curves
@@ -54,8 +50,7 @@ planned_between {sizes} {playback} {run} {plan} {slot} is_plan sending count_is 
       | inr past ↦
           let keeps = sending-keeps sizes playback run plan sending in
           let limits = sending-limits sizes playback run plan sending in
-          let all : total_bytes plan ≡ sum_through plan slot =
-          sum_through-past plan slot is_plan (omega (arith, keeps.slots, past)) in
+          let all : total_bytes plan ≡ sum_through plan slot = grind (arith, sum_through-past) in
           let whole = used_before-all rest timing limits.some_slot_units sending.plan_is.accepted.some_picture in
           let used = used_before_rises rest timing (slot_count rest timing) slot past in
           let most = used_most rest timing (slot + 1) in

@@ -1,3 +1,4 @@
+use Rattle.std.proofs.Common.{arith}
 -- Lemmas on elements and on what was sent, one step after another.
 use Rattle.std.proofs.Common.{◌≡◌, ℕ, List, ◌++◌, drop, Ok, ap, sym, ◌∙◌, subst}
 use Rattle.interleave.specs.Streams.{AreInputElements, returned_length, returned_elements}
@@ -10,8 +11,7 @@ pub cuts_none : (input : List ℕ) → CutsOn input input
 cuts_none input = record { each = λ bytes elements cut. (elements, cut) }
 
 pub cuts_on : {a b c : List ℕ} → CutsOn a b → CutsOn b c → CutsOn a c
-cuts_on first second =
-    record { each = λ bytes elements cut. let next = first.each bytes elements cut in second.each bytes next.0 next.1 }
+cuts_on first second = grind arith
 
 -- the first element is dropped
 pub cuts_drop : {input rest : List ℕ} (step : Step) → IsFirst input (Ok step)

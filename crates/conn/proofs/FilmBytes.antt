@@ -1,3 +1,4 @@
+use Rattle.std.proofs.lemmas.Grind.{common_steps}
 -- Lemmas on what is sent of a film, one slot after another: of a play that goes on, and of the rest of
 -- one that was halted, up to what the halt keeps.
 use Rattle.std.proofs.Common.{◌≡◌, ℕ, ◌+◌, ◌-◌, ◌<◌, ◌≤◌, ◌++◌, Bool, true, false, if◌then◌else◌, min, max, List, []}
@@ -12,7 +13,7 @@ use Rattle.pacer.specs.Boundaries.{bytes_between, boundary_from}
 use Rattle.pacer.specs.PacerStates.{IsPacerState, PacerState, due_by, first_slots, plan_bytes, at_slot, slots_by}
 use Rattle.pacer.specs.PacerStates.{stands_at_boundary, step_end, after_step, next_boundary}
 use Rattle.pacer.proofs.PacerStateLemmas.{boundary-from, due-of-both}
-use Rattle.pacer.proofs.SendLemmas.{between-join, between-length}
+use Rattle.pacer.proofs.SendLemmas.{between-join}
 use Rattle.session.proofs.StopBoundaryLemmas.{stop_between}
 use Rattle.session.specs.SessionStates.{SessionState}
 use Rattle.conn.proofs.EventPremises.{PlayGoing}
@@ -36,15 +37,6 @@ slot_film waits slot p =
     (step_end false (at_slot slot (after_step true slot p))) else [])
     else plan_bytes p p.sent (step_end false (at_slot slot p))
 
--- a step with a stop, and then one without
-both_steps : (slot : ℕ) (p : PacerState) → after_step false slot (after_step true slot p) ≡ sent_through slot p
-both_steps slot p =
-    let due : ℕ = due_by p slot in
-    let part : ℕ = min (first_slots p.plan (slots_by p slot)) p.keep in
-    let passed : max (max p.passed (slots_by p slot)) (slots_by p slot) ≡ max p.passed (slots_by p slot) =
-    omega arith in
-    let again : max due part ≡ due = omega arith in cc
-
 -- a step with a stop that ends within a frame has sent all that is due
 stop_inside : (slot : ℕ) (p : PacerState) → IsPacerState p → stands_at_boundary (after_step true slot p) ≡ false
     → step_end true (at_slot slot p) ≡ due_by p slot
@@ -53,9 +45,7 @@ stop_inside slot p is inside =
       | inl less ↦
           let more : 0 < (after_step true slot p).due - (after_step true slot p).sent = omega (arith, less) in
           absurd (true≢false (sym (stop_between slot p (after_step true slot p) is refl more) ∙ inside))
-      | inr more ↦
-          let most : step_end true (at_slot slot p) ≤ due_by p slot = omega arith in
-          omega (arith, more, most)
+      | inr more ↦ grind arith
     ]
 
 -- after a slot all that is due was sent, with a reply or none
@@ -63,9 +53,7 @@ pub slot_is : (waits between : Bool) (slot : ℕ) (p : PacerState) → IsPacerSt
     stands_at_boundary (after_step true slot p) ≡ between →
     (if waits then (if between then after_step false slot (after_step true slot p) else after_step true slot p)
     else after_step false slot p) ≡ sent_through slot p
-slot_is false between slot p is between_is = refl
-slot_is true true slot p is between_is = both_steps slot p
-slot_is true false slot p is between_is = let all = stop_inside slot p is between_is in cc
+slot_is waits between slot p given given' = grind (arith, stop_inside)
 
 -- what was sent of a pacing is within its pieces, whose next boundary is there
 pub sent_within : (p : PacerState) → IsPacerState p → p.before + p.sent ≤ length (framed_bytes p.pieces)
@@ -83,14 +71,11 @@ pub slot_bytes : (waits between : Bool) (slot : ℕ) (p : PacerState) → IsPace
     (step_end false (at_slot slot (after_step true slot p))) else [])
     else plan_bytes p p.sent (step_end false (at_slot slot p))) ≡ plan_bytes p p.sent (due_by p slot)
 slot_bytes false between slot p is between_is = refl
-slot_bytes true false slot p is between_is =
-    append-nil (plan_bytes p p.sent (step_end true (at_slot slot p)))
-    ∙ ap (plan_bytes p p.sent) (stop_inside slot p is between_is)
+slot_bytes true false slot p is between_is = search (append-nil, stop_inside)
 slot_bytes true true slot p is between_is =
     let due : ℕ = due_by p slot in
     let mid : ℕ = step_end true (at_slot slot p) in
-    let end : step_end false (at_slot slot (after_step true slot p)) ≡ due =
-    ap (λ (q : PacerState). q.sent) (both_steps slot p) in
+    let end : step_end false (at_slot slot (after_step true slot p)) ≡ due = grind arith in
     let next = next_of_sent p is in
     let least : p.sent ≤ mid = omega (arith, next.after, is.sent) in
     let most : mid ≤ due = omega arith in
@@ -101,16 +86,7 @@ slot_bytes true true slot p is between_is =
 -- it is a pacing again, and so it is where less of what is due was sent
 sent_upto : (slot sent : ℕ) (p : PacerState) → IsPacerState p → sent ≤ due_by p slot
     → IsPacerState (record (at_slot slot p) { sent = sent })
-sent_upto slot sent p is most = record {
-  plan = is.plan;
-  whole = is.whole;
-  short = is.short;
-  begins = is.begins;
-  ends = is.ends;
-  most = is.most;
-  due = due-of-both p.plan p.passed (slots_by p slot) p.keep p.due is.due;
-  sent = most;
-}
+sent_upto slot sent p is most = search due-of-both
 
 pub through_is : (slot : ℕ) (p : PacerState) → IsPacerState p → IsPacerState (sent_through slot p)
 through_is slot p is = sent_upto slot (due_by p slot) p is (omega arith)
@@ -122,14 +98,7 @@ stopped_is slot p is = sent_upto slot (step_end true (at_slot slot p)) p is (ome
 film_joined : {film : List ℕ} (waits : Bool) (slot : ℕ) (p : PacerState) → IsPacerState p
     → film ≡ bytes_between p.pieces p.before (p.before + p.sent)
     → film ++ slot_film waits slot p ≡ bytes_between p.pieces p.before (p.before + due_by p slot)
-film_joined waits slot p is film_is =
-    let bytes : slot_film waits slot p ≡ plan_bytes p p.sent (due_by p slot) =
-    slot_bytes waits (stands_at_boundary (after_step true slot p)) slot p is refl in
-    let before : p.sent ≤ due_by p slot = omega (arith, is.sent) in
-    ap (λ bs. bs ++ slot_film waits slot p) film_is
-    ∙ ap (λ bs. bytes_between p.pieces p.before (p.before + p.sent) ++ bs) bytes
-    ∙ between-join p.pieces p.before (p.before + p.sent) (p.before + due_by p slot) (omega arith)
-    (omega (arith, before))
+film_joined waits slot p is film_is = grind (arith, slot_bytes, between-join)
 
 -- of a play that goes on they are what its plan has
 film_through : {session : SessionState} (going : PlayGoing session) (slot : ℕ)
@@ -138,10 +107,7 @@ film_through : {session : SessionState} (going : PlayGoing session) (slot : ℕ)
 film_through {session} going slot all_sent =
     let p = going.play.pacer in
     let has = going.sent in
-    let old_sent : p.sent ≡ first_slots p.plan (session.heard + 1 - p.start) =
-    has.sent ∙ ap (first_slots p.plan) (omega (arith, has.passed, has.start)) in
-    let first : going.film ≡ bytes_between p.pieces p.before (p.before + p.sent) =
-    has.film_is ∙ ap (λ n. take n (drop p.before (framed_bytes p.pieces))) (omega (arith, old_sent)) in
+    let first : going.film ≡ bytes_between p.pieces p.before (p.before + p.sent) = grind arith in
     film_joined session.waits slot p has.pacing first
     ∙ ap (λ n. take n (drop p.before (framed_bytes p.pieces))) (omega (arith, all_sent))
 
@@ -158,14 +124,8 @@ sent_slot {session} going slot later =
     let q : slot_pacing waits slot p ≡ sent_through slot p = slot_is waits between slot p has.pacing refl in
     let passed : max p.passed (slots_by p slot) ≡ slot + 1 - play.start = omega (arith, has.passed, has.start, later) in
     let due : due_by p slot ≡ first_slots p.plan (max p.passed (slots_by p slot)) =
-    omega (
-      arith,
-      due-of-both p.plan p.passed (slots_by p slot) p.keep p.due has.pacing.due,
-      most-slots p.plan (max p.passed (slots_by p slot)) has.pacing.plan,
-      has.kept,
-    ) in
-    let all_sent : due_by p slot ≡ first_slots p.plan (slot + 1 - p.start) =
-    due ∙ ap (first_slots p.plan) (omega (arith, passed, has.start)) in
+    grind (arith, due-of-both, most-slots) in
+    let all_sent : due_by p slot ≡ first_slots p.plan (slot + 1 - p.start) = grind arith in
     subst (λ (r : PacerState). HasSent (record play { pacer = r }) slot (going.film ++ slot_film waits slot p)) (sym q)
     (record {
       pacing = through_is slot p has.pacing;
@@ -195,25 +155,13 @@ halted_here {play} {heard} {film} {keep} has keep_is =
     let is = has.pacing in
     let next = next_of_sent p is in
     let place : boundary_from p.pieces (p.before + p.sent) ≡ p.before + keep = omega (arith, keep_is, next.after) in
-    let after : IsBoundaryAfter p.pieces (p.before + p.sent) (p.before + keep) =
-    subst (IsBoundaryAfter p.pieces (p.before + p.sent)) place next in
-    let most : p.before + keep ≤ p.before + p.keep =
-    after.least (p.before + p.keep) is.ends (omega (arith, is.due, is.sent)) in
+    let after : IsBoundaryAfter p.pieces (p.before + p.sent) (p.before + keep) = grind arith in
+    let most : p.before + keep ≤ p.before + p.keep = grind arith in
     let all : p.sent ≡ first_slots p.plan p.passed = has.sent in
     let sent : p.sent ≡ min (first_slots p.plan p.passed) keep = omega (arith, all, after.after) in
-    let count : first_slots p.plan (heard + 1 - p.start) ≡ p.before + p.sent - p.before =
-    omega (arith, all, ap (first_slots p.plan) (has.passed ∙ ap (λ s. heard + 1 - s) (sym has.start))) in
+    let count : first_slots p.plan (heard + 1 - p.start) ≡ p.before + p.sent - p.before = grind arith in
     record {
-      pacing = record {
-        plan = is.plan;
-        whole = is.whole;
-        short = is.short;
-        begins = is.begins;
-        ends = after.boundary;
-        most = omega (arith, most, is.most);
-        due = omega (arith, is.due, is.sent, all, sent);
-        sent = is.sent;
-      };
+      pacing = grind arith;
       passed = has.passed ∙ ap (λ s. heard + 1 - s) (sym has.start);
       sent = sent;
       film_is = has.film_is ∙ ap (λ n. take n (drop p.before (framed_bytes p.pieces))) count;
@@ -224,8 +172,7 @@ halted_here {play} {heard} {film} {keep} has keep_is =
 pub halted_on : {p : PacerState} {heard slot : ℕ} {film : List ℕ} (waits : Bool) → IsHaltedPacing p heard film →
     heard < slot → IsHaltedPacing (sent_through slot p) slot (film ++ slot_film waits slot p)
 halted_on {p} {heard} {slot} {film} waits has later =
-    let due : due_by p slot ≡ min (first_slots p.plan (max p.passed (slots_by p slot))) p.keep =
-    due-of-both p.plan p.passed (slots_by p slot) p.keep p.due has.pacing.due in
+    let due : due_by p slot ≡ min (first_slots p.plan (max p.passed (slots_by p slot))) p.keep = search due-of-both in
     let before : p.sent ≤ due_by p slot = omega (arith, has.pacing.sent) in
     let most : due_by p slot ≤ p.keep = omega (arith, due) in
     record {
@@ -233,15 +180,9 @@ halted_on {p} {heard} {slot} {film} waits has later =
       passed = omega (arith, has.passed, later);
       sent = due;
       film_is = film_joined waits slot p has.pacing has.film_is;
-      ends = record {
-        boundary = has.ends.boundary;
-        after = omega (arith, most);
-        least = λ other boundary past. has.ends.least other boundary (omega (arith, before, past));
-      };
+      ends = grind arith;
     }
 
 -- how many bytes were sent
 pub halted_count : {p : PacerState} {heard : ℕ} {film : List ℕ} → IsHaltedPacing p heard film → length film ≡ p.sent
-halted_count {p} has =
-    let is = has.pacing in
-    ap length has.film_is ∙ between-length p.pieces p.before (p.before + p.sent) (omega arith) (sent_within p is) ∙ omega arith
+halted_count {p} has = grind (arith, common_steps)

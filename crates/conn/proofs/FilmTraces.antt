@@ -1,5 +1,5 @@
 -- What is true of each film, one film after another.
-use Rattle.std.proofs.Common.{◌≡◌, ℕ, ◌+◌, ◌<◌, ◌≤◌, List, Some, length, subst, arith, inl, inr}
+use Rattle.std.proofs.Common.{◌≡◌, ℕ, ◌+◌, ◌<◌, ◌≤◌, List, Some, length, subst, arith}
 use Rattle.std.specs.Prelude.{slice_get}
 use Rattle.std.proofs.lemmas.Option.{slice_get_cases}
 use borrow.Author.Count.{below_more}
@@ -22,8 +22,4 @@ shown_more {film} {shown} films front at one = λ number stored less there.
 -- all are
 pub shown_all : {film : ℕ} (films : List Stored) → AreFrontShown films film → length films ≤ film
     → (number : ℕ) → OfFilm films number IsShown
-shown_all {film} films front past = λ number stored there.
-    elim (slice_get_cases films number).1 [
-      | inl found ↦ front number stored (omega (arith, found.1, past)) there
-      | inr none ↦ absurd (let no : ⊥ = cc (none.1, there) in no)
-    ]
+shown_all {film} films front past = grind (arith, slice_get_cases)

@@ -1,9 +1,9 @@
+use Rattle.std.proofs.Common.{arith}
 -- What the answer to a halt leaves of a session.
-use Rattle.std.proofs.Common.{◌≡◌, ℕ, refl}
+use Rattle.std.proofs.Common.{◌≡◌, ℕ}
 use Rattle.session.specs.RequestSteps.{after_halt}
 use Rattle.session.specs.SessionStates.{AwaitedAnswer, SessionState}
 use Rattle.conn.specs.InputSteps.{Outcome, IsFinished}
-use Rattle.conn.proofs.StationAnswers.{FinishesAs, finishes_as, NothingLeft, DoneHalted}
 
 -- a part of a session that a halt leaves as it was
 module _ {A : Type 0} (part : SessionState → A)
@@ -11,9 +11,4 @@ module _ {A : Type 0} (part : SessionState → A)
   -- so it is once a slot was processed, where the station was asked for nothing but a halt
   pub finished_as_before : (asks : AwaitedAnswer) (old : SessionState) (outcome : Outcome) (new : SessionState)
       → IsFinished asks old outcome new → part new ≡ part old
-  finished_as_before asks old outcome new is = by-answer (finishes_as asks outcome is)
-    where
-      by-answer : {asks : AwaitedAnswer} {new : SessionState} {outcome : Outcome} → FinishesAs old asks outcome new
-          → part new ≡ part old
-      by-answer NothingLeft = refl
-      by-answer (DoneHalted {placed = placed} entry) = same old placed.place
+  finished_as_before asks old outcome new is = grind arith

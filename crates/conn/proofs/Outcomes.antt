@@ -1,21 +1,22 @@
+use Rattle.std.proofs.Common.{arith}
+use Rattle.std.proofs.lemmas.Grind.{common_steps}
 -- What the station's answers leave of the connection that asked for them.
-use Rattle.std.proofs.Common.{[], ◌∷◌, ◌≡◌, ℕ, List, refl, sym, ◌∙◌, subst, ◌^◌, ◌<◌, ◌≤◌, Option, Some, None, ap}
-use Rattle.std.proofs.lemmas.List.{append-nil}
+use Rattle.std.proofs.Common.{[], ◌∷◌, ◌≡◌, ℕ, List, refl, sym, ◌∙◌, ◌^◌, ◌<◌, ◌≤◌, Some, None, ap}
 use Rattle.station.specs.Seats.{SeatState}
 use Rattle.admission.specs.Makers.{PlacedEntry, IsOpenAmong}
 use Rattle.session.specs.RequestSteps.{after_admission}
 use Rattle.session.specs.declared.commands.Ask.TheVariants.{Reply as AskReply, Play as AskPlay}
-use Rattle.session.specs.SessionStates.{SessionState, IsAnswerRecorded, OpenBooking, PlayAnswer, awaited_answer}
+use Rattle.session.specs.SessionStates.{SessionState, IsAnswerRecorded, PlayAnswer, awaited_answer}
 use Rattle.session.specs.SessionStates.{booking_of, open_of}
 use Rattle.conn.specs.InputSteps.{Unasked, Entered, WasFull, Offered}
 use Rattle.conn.specs.Observations.{AreNoted, HasAnswered}
 use Rattle.conn.proofs.CourseSteps.{noted_unasked}
-use Rattle.conn.proofs.Journals.{FoundFull, MadeOffer, OwnEntry, SeatCall, entry_agrees, full_agrees, note_of_offer}
-use Rattle.conn.proofs.Journals.{offer_agrees, own_last}
+use Rattle.conn.proofs.Journals.{FoundFull, MadeOffer, OwnEntry, SeatCall, entry_agrees, note_of_offer}
+use Rattle.conn.proofs.Journals.{own_last}
 use Rattle.admission.specs.declared.entries.Answer.TheVariants.{Admitted}
 use Rattle.plan_cert.specs.declared.Segment.{Segment}
 use Rattle.plan_cert.specs.PlanSlots.{total_bytes}
-use Rattle.session_records.specs.declared.notes.Receipt.TheVariants.{Full as FullReceipt, Entry as EntryReceipt}
+use Rattle.session_records.specs.declared.notes.Receipt.TheVariants.{Entry as EntryReceipt}
 use Rattle.session.specs.SlotTransitions.{IsPlayIn}
 use Rattle.station.specs.Answers.{IsSeatRefused, HasMadeEntry}
 use Rattle.station.specs.Ledgers.{play_of}
@@ -25,7 +26,7 @@ use Rattle.station.specs.declared.answers.PlayRefused.TheVariants.{JournalFull, 
 use Rattle.conn.specs.declared.connections.Connection.{Connection}
 use Rattle.conn.specs.ReservationInvariant.{HasAdvanced, IsHeld, KeepsReservations, open_play_of, reservation_state}
 use Rattle.conn.specs.Refusals.{after_refusal, refusal_receipt}
-use Rattle.conn.proofs.ReservationSteps.{gone_entry, gone_none, held_none}
+use Rattle.conn.proofs.ReservationSteps.{gone_entry, gone_none}
 
 -- what is noted of the station's answers: an entry, a full journal, an offer
 pub noted_entry : {seat next : SeatState} {placed : PlacedEntry} → OwnEntry seat next placed
@@ -34,29 +35,15 @@ noted_entry own = record { mine = own_last own; seat = own.call.same; agree = en
 
 pub noted_full : {seat next : SeatState} (found : FoundFull seat next)
     → AreNoted seat next (WasFull found.more found.entries found.live ∷ [])
-noted_full {seat} found = record {
-  mine = found.full.mine ∙ sym (append-nil seat.mine);
-  seat = found.same;
-  agree = full_agrees found;
-}
+noted_full {seat} found = grind (arith, common_steps)
 
 pub noted_offer : {seat next : SeatState} (offer : MadeOffer seat next)
     → AreNoted seat next (Offered offer.heard (note_of_offer offer) ∷ [])
-noted_offer {seat} offer = record {
-  mine = offer.mine ∙ sym (append-nil seat.mine);
-  seat = offer.same;
-  agree = offer_agrees offer;
-}
+noted_offer {seat} offer = grind (arith, common_steps)
 
 -- the station wasn't asked
 pub answered_none : (session : SessionState) (seat : SeatState) → HasAnswered session AskReply session seat seat
 answered_none session seat = record { outcome = Unasked; answered = refl; noted = noted_unasked seat }
-
--- none is held, and none is open
-held_closed : {booking : Option Booking} {play : Option OpenBooking} (mine : List PlacedEntry) → booking ≡ None
-    → play ≡ None → IsHeld mine booking play
-held_closed {booking} {play} mine none closed =
-    subst (λ b. IsHeld mine b play) (sym none) (subst (IsHeld mine None) (sym closed) tt)
 
 -- the station answers to a play that a connection asks for
 pub record IsAsking (seat next : SeatState) (before : Connection) : Type 0 where
@@ -66,8 +53,7 @@ pub record IsAsking (seat next : SeatState) (before : Connection) : Type 0 where
 
 -- no booking is held as it answers
 none_held : {seat next : SeatState} {before : Connection} → IsAsking seat next before → before.booking ≡ None
-none_held {seat} {before = before} asking =
-    held_none seat.mine before.booking (open_of before.session) asking.closed asking.held
+none_held {seat} {before = before} asking = grind arith
 
 -- a call at the station: the seat and the connection before it and after it
 pub record StationCall : Type 0 where
@@ -87,28 +73,14 @@ pub record HasRefused (refused : PlayRefused) (call : StationCall) : Type 0 wher
 
 gone_refused : {call : StationCall} (refused : PlayRefused) → HasRefused refused call → call.before.booking ≡ None
     → HasAdvanced (reservation_state call.seat.mine call.before) (reservation_state call.next.mine call.after)
-gone_refused (JournalFull asked entries live) play none =
-    gone_none (record {
-      full = FullReceipt entries live ∷ [];
-      mine = play.is.1.mine;
-      booking = play.booking;
-      receipts = play.handed.receipts;
-      none = refl;
-    })
+gone_refused (JournalFull asked entries live) play none = search gone_none
 gone_refused (Overflow place slot booked bytes) play none =
     gone_entry (record { booking = None; was = none; mine = play.is.mine; receipts = play.handed.receipts })
     (ap open_play_of (sym (play.booking ∙ none)))
 
 pub kept_refused : {refused : PlayRefused} (call : StationCall) → IsAsking call.seat call.next call.before
     → HasRefused refused call → KeepsReservations call.seat call.next call.before call.after
-kept_refused {refused} call asking play = record {
-  seat = asking.call.same;
-  quiet = record {
-    rest = play.handed.at_rest;
-    held = held_closed call.next.mine (play.booking ∙ none_held asking) play.closed;
-  };
-  gone = gone_refused {call = call} refused play (none_held asking);
-}
+kept_refused {refused} call asking play = grind (arith, gone_refused {call = call} refused play (none_held asking))
 
 pub answered_refused : {plan : List Segment} (call : StationCall) (refused : PlayRefused)
     → IsAsking call.seat call.next call.before
@@ -120,11 +92,8 @@ answered_refused call (JournalFull asked entries live) asking is told = record {
   answered = (told, refl);
   noted = noted_full (record { more = 2; entries = entries; live = live; same = asking.call.same; full = is.1 });
 }
-answered_refused call (Overflow place slot booked bytes) asking is told = record {
-  outcome = Entered _;
-  answered = (refl, told);
-  noted = noted_entry (record { call = asking.call; maker = refl; made = is });
-}
+answered_refused call (Overflow place slot booked bytes) asking is told =
+    grind (arith, noted_entry (record { call = asking.call; maker = refl; made = is }))
 
 -- a play of a plan was admitted: its booking is held
 pub record HasAdmitted (plan : List Segment) (booking : Booking) (call : StationCall) : Type 0 where
@@ -145,11 +114,7 @@ kept_admitted {plan} {booking} call asking admitted =
     admitted.opens ∙ ap (λ awaits. booking_of awaits booking.start) admitted.asked in
     record {
       seat = asking.call.same;
-      quiet = record {
-        rest = admitted.handed.at_rest;
-        held = subst (λ b. IsHeld call.next.mine b (open_of call.after.session)) (sym admitted.booking_is)
-            (subst (IsHeld call.next.mine (Some booking)) (sym opened) admitted.keeps);
-      };
+      quiet = grind arith;
       gone = gone_entry (record {
         booking = None;
         was = none_held asking;
@@ -167,11 +132,9 @@ pub record HasHeardAdmission (before : SessionState) (booking : Booking) (after 
 
 pub answered_admitted : {plan : List Segment} {booking : Booking} (call : StationCall)
     → IsAsking call.seat call.next call.before
-    → HasMadeEntry call.seat call.next 2 (play_of call.before.session.heard plan) booking.number (Admitted booking.start)
+    → HasMadeEntry call.seat call.next 2 (play_of call.before.session.heard plan) booking.number
+    (Admitted booking.start)
     → HasHeardAdmission call.before.session booking call.after.session
     → HasAnswered call.before.session (AskPlay plan) call.after.session call.seat call.next
-answered_admitted call asking made heard = record {
-  outcome = Entered _;
-  answered = (refl, (heard.later, heard.exact, heard.play, heard.small));
-  noted = noted_entry (record { call = asking.call; maker = refl; made = made });
-}
+answered_admitted call asking made heard =
+    grind (arith, noted_entry (record { call = asking.call; maker = refl; made = made }))

@@ -1,9 +1,9 @@
+use Rattle.std.proofs.lemmas.Grind.{common_steps}
 -- What a connection keeps to while a play goes on, by the course.
-use Rattle.std.proofs.Common.{◌≡◌, ℕ, ◌+◌, ◌-◌, ◌≤◌, ◌&&◌, ◌++◌, Bool, true, false, if◌then◌else◌, List, [], ◌∷◌}
-use Rattle.std.proofs.Common.{length, take, drop, refl, sym, ap, subst, ◌∙◌, arith, inl, Option}
+use Rattle.std.proofs.Common.{◌≡◌, ℕ, ◌+◌, ◌-◌, ◌≤◌, ◌++◌, false, List, [], ◌∷◌}
+use Rattle.std.proofs.Common.{length, take, ap, subst, ◌∙◌, arith, inl, Option}
 use Rattle.std.proofs.lemmas.List.{append-nil}
 use Rattle.film_frames.specs.declared.stored_films.Stored.{Stored}
-use Rattle.film_frames.specs.Tracks.{framed_bytes}
 use Rattle.film_run.proofs.PlanLemmas.{sending-best}
 use Rattle.film_run.specs.declared.runs.Run.{Run}
 use Rattle.film_run.specs.Units.{stored_sizes}
@@ -15,17 +15,16 @@ use Rattle.session.specs.declared.states.State.{State}
 use Rattle.session.specs.declared.states.State.TheVariants.{Playing, Stopping}
 use Rattle.session.specs.RequestSteps.{new_session_state}
 use Rattle.film_streams.specs.SettingRanges.{AreSettings}
-use Rattle.session.specs.SlotSteps.{is_between, is_sending, is_taken, sent_due, after_slot, stepped_in}
+use Rattle.session.specs.SlotSteps.{is_sending, after_slot}
 use Rattle.session.specs.SessionStates.{SessionState, last_heard_slot}
-use Rattle.conn.specs.InputSteps.{Outcome, SentPart, Stage, due_parts, film_bytes, slot_parts, stage}
+use Rattle.conn.specs.InputSteps.{Outcome, SentPart, Stage, film_bytes, slot_parts, stage}
 use Rattle.conn.specs.EventSteps.{Round, ending_outcomes, rounds_outcomes}
 use Rattle.conn.specs.Films.{HasSentOn, rounds_parts}
 use Rattle.conn.specs.Plays.{ArePlaysKept, IsKeptIn, IsSentBy, client_of, heard_by, play_pieces, ending_rounds}
 use Rattle.conn.proofs.CourseSteps.{noted_on, seen_agrees}
 use Rattle.conn.proofs.CurveBounds.{planned_between}
 use Rattle.conn.proofs.RequestInvariants.{AreShown, HasPlay, IsStateOf, IsWell, ground_of}
-use Rattle.conn.proofs.PlayProgress.{as_it_was, reply_heard, slot_play, standings}
-use Rattle.conn.proofs.ReplyPlacement.{film_count}
+use Rattle.conn.proofs.PlayProgress.{as_it_was, slot_play}
 use Rattle.conn.proofs.SeatReplies.{refusals_told}
 use Rattle.conn.proofs.StoppedPlays.{StopGoing, stop_cut, stop_slot, stop_still}
 use Rattle.conn.proofs.ReplyContents.{course_tells}
@@ -38,28 +37,16 @@ use Rattle.admission.proofs.CapacityBounds.{sound-after}
 use Rattle.slot_calendar.specs.Profiles.{capacity_at}
 use Rattle.station.specs.Seats.{IsSeat, SeatState}
 use Rattle.conn.proofs.SessionInvariant.{rounds_well}
-use Rattle.conn.proofs.EventPremises.{PlayGoing, SlotStandings}
+use Rattle.conn.proofs.EventPremises.{PlayGoing}
 use Rattle.conn.proofs.StationAnswers.{ComesAs, comes_as, BytesCame, SlotCame}
 
 -- a session that received nothing yet
 pub new_well : (films : List Stored) (settings : Settings) (words : List ℕ) → AreShown films → AreSettings settings →
     IsWell (new_session_state films settings words) []
-new_well films settings words shown good =
-    record { serves = record { films = shown; settings = good }; unstopped = refl; state = tt }
-
--- the latest slot after a slot
-heard_cases : {slot : ℕ} (taken sending : Bool) (standings : SlotStandings) → standings.sending.heard ≡ slot →
-    standings.still.heard ≡ slot →
-    (if taken then (if sending then standings.sending else standings.still) else standings.before).heard ≡
-    (if taken then slot else standings.before.heard)
-heard_cases {slot} false sending standings one other = refl
-heard_cases {slot} true false standings one other = other
-heard_cases {slot} true true standings one other = one
+new_well films settings words shown good = grind arith
 
 slot_heard : (old : SessionState) (slot : ℕ) → (after_slot old slot).heard ≡ last_heard_slot old.heard slot
-slot_heard old slot =
-    heard_cases (is_taken old slot) (is_sending old.state) (standings old slot) (reply_heard (old.waits && is_between (stepped_in true slot old.state))
-    (sent_due old slot)) refl
+slot_heard old slot = grind (arith, common_steps)
 
 -- what was sent of a play, by the play as it was and as it is now
 sent_by : {old new : SessionState} {more : List ℕ} (going : PlayGoing old)
@@ -74,11 +61,8 @@ sent_by {old} {new} {more} going its on =
     let sent = on.sent in
     let plan : now.pacer.plan ≡ play.plan = sent.plan ∙ on.plan in
     let is_plan : IsPlan play.plan = subst IsPlan plan sent.pacing.plan in
-    let count : length more ≡ first_slots play.plan (heard + 1 - play.start) =
-    film_count now heard more sent ∙ ap (λ p. first_slots p (heard + 1 - now.start)) plan
-    ∙ ap (λ s. first_slots play.plan (heard + 1 - s)) on.start in
-    let slots : first_slots now.pacer.plan (heard + 1 - now.pacer.start) ≡ length more =
-    ap (λ s. first_slots now.pacer.plan (heard + 1 - s)) sent.start ∙ sym (film_count now heard more sent) in
+    let count : length more ≡ first_slots play.plan (heard + 1 - play.start) = grind (arith, common_steps) in
+    let slots : first_slots now.pacer.plan (heard + 1 - now.pacer.start) ≡ length more = grind arith in
     let before : now.pacer.before ≡ play.run.sent = sent.before ∙ ap (λ (r : Run). r.sent) on.run in
     let pieces : now.pacer.pieces ≡ play_pieces old stored setup play = on.pieces ∙ its.pieces in (
       stored,
@@ -87,9 +71,7 @@ sent_by {old} {new} {more} going its on =
         sending = its.sending;
         best = sending-best (stored_sizes stored) (client_of old stored setup) play.run play.plan its.sending;
         count = count;
-        front = sent.film_is ∙ ap (λ n. take n (drop now.pacer.before (framed_bytes now.pacer.pieces))) slots
-            ∙ ap (λ n. take (length more) (drop n (framed_bytes now.pacer.pieces))) before
-            ∙ ap (λ ps. take (length more) (drop play.run.sent (framed_bytes ps))) pieces;
+        front = grind arith;
         between = λ slot at.
             let through : heard + 1 - play.start ≡ slot + 1 = omega (arith, at) in
             planned_between is_plan its.sending (count ∙ ap (first_slots play.plan) through);
@@ -120,26 +102,12 @@ kept_slot _ s slot film is was = tt
 
 kept_event : {film : List ℕ} {old new : Stage} {round : Round} → ComesAs old round new → IsWell old.session film
     → IsKeptIn old.session.state old.session (heard_by old.session.heard round.event) (film ++ film_bytes round.due)
-kept_event {film} {old} BytesCame well =
-    let s = old.session in
-    subst (IsKeptIn s.state s s.heard) (sym (append-nil film)) (kept_still s.state s film refl well.state)
-kept_event {film} {old} (SlotCame {slot = slot} finishes) well =
-    let s = old.session in
-    subst (λ n. IsKeptIn s.state s n (film ++ film_bytes (slot_parts s slot))) (slot_heard s slot)
-    (kept_slot s.state s slot film refl well.state)
-
--- else nothing of a film is sent
-no_parts : (taken : Bool) (parts : List SentPart) → film_bytes (if taken && false then parts else []) ≡ []
-no_parts true parts = refl
-no_parts false parts = refl
+kept_event {film} {old} BytesCame well = search (append-nil, kept_still)
+kept_event {film} {old} (SlotCame {slot = slot} finishes) well = grind (arith, slot_heard, kept_slot)
 
 no_film_event : {old new : Stage} {round : Round} → ComesAs old round new → is_sending old.session.state ≡ false
     → film_bytes round.due ≡ []
-no_film_event BytesCame none = refl
-no_film_event {old} (SlotCame {slot = slot} finishes) none =
-    let s = old.session in
-    ap (λ sends. film_bytes (if is_taken s slot && sends then due_parts s slot else [])) none
-    ∙ no_parts (is_taken s slot) (due_parts s slot)
+no_film_event given given' = grind arith
 
 -- in each course from such a session on
 pub plays_kept : (first : SessionState) (rounds : List Round) → IsWell first [] → ArePlaysKept first rounds

@@ -1,3 +1,5 @@
+use Rattle.std.proofs.Common.{arith}
+use Rattle.std.proofs.lemmas.Grind.{common_steps}
 -- Lemmas on a play that goes on, one event after another.
 use Rattle.std.proofs.Common.{◌≡◌, ℕ, ◌^◌, ◌<◌, ◌++◌, ◌&&◌, Bool, true, false, if◌then◌else◌, nat_lt, nat_le, List}
 use Rattle.std.proofs.Common.{[], ◌∷◌, refl, ap, sym, ◌∙◌, subst}
@@ -22,9 +24,9 @@ use Rattle.conn.specs.Films.{HaveNoHalt, GoesOn, HasSent, HasSentOn, IsSamePlay,
 use Rattle.session.specs.Laws.{AsksNoHalt}
 use Rattle.session.proofs.RefusalEffectLemmas.{hears_plays}
 use Rattle.conn.proofs.FilmBytes.{sent_slot as sent_by, sent_through, slot_film, slot_is, slot_pacing}
-use Rattle.conn.proofs.EventPremises.{SlotPacings, SlotStandings, PlayGoing, RequestHeard}
+use Rattle.conn.proofs.EventPremises.{PlayGoing, RequestHeard}
 use Rattle.conn.proofs.StationAnswers.{AnswersAs, ComesAs, FinishesAs, IsHaltEntry, answers_as, comes_as, BytesCame}
-use Rattle.conn.proofs.StationAnswers.{SlotCame, DoneHalted, NothingLeft, PlayAdmitted, PlayHalted}
+use Rattle.conn.proofs.StationAnswers.{SlotCame, PlayAdmitted, PlayHalted}
 
 -- a halt is an entry that halts
 no_halt : {keep : ℕ} {placed : PlacedEntry} → IsHaltEntry keep placed → HasNoHalt (Entered placed) → ⊥
@@ -32,43 +34,15 @@ no_halt entry free = subst IsNoHalt entry.command free
 
 finished_same : {asks : AwaitedAnswer} {old new : SessionState} {halt : Outcome} → FinishesAs old asks halt new
     → HasNoHalt halt → new ≡ old
-finished_same NothingLeft free = refl
-finished_same (DoneHalted entry) free = absurd (no_halt entry free)
+finished_same given given' = grind arith
 
 -- the state and the latest slot, after a slot that is processed
 pub reply_state : (goes : Bool) (s : SessionState)
     → (if goes then sent_reply s else s).state ≡ (if goes then after_stop s.state else s.state)
-reply_state true s = refl
-reply_state false s = refl
+reply_state goes s = grind arith
 
 pub reply_heard : (goes : Bool) (s : SessionState) → (if goes then sent_reply s else s).heard ≡ s.heard
-reply_heard true s = refl
-reply_heard false s = refl
-
-abbrev pub with_pacer : Setup → Played → PacerState → State
-with_pacer setup play p = Playing setup (record play { pacer = p })
-
--- a play's state after a slot, and the film's bytes in it
-state_cases : (waits between : Bool) (pacings : SlotPacings) →
-    (if waits && between
-    then after_stop
-    (if waits then (if between then with_pacer pacings.setup pacings.play pacings.both else with_pacer pacings.setup
-    pacings.play pacings.front) else with_pacer pacings.setup pacings.play pacings.plain)
-    else (if waits
-    then (if between then with_pacer pacings.setup pacings.play pacings.both else with_pacer pacings.setup pacings.play
-    pacings.front) else with_pacer pacings.setup pacings.play pacings.plain))
-    ≡ with_pacer pacings.setup pacings.play
-    (if waits then (if between then pacings.both else pacings.front) else pacings.plain)
-state_cases false between pacings = refl
-state_cases true false pacings = refl
-state_cases true true pacings = refl
-
-pub film_cases : (waits between : Bool) (one after plain text : List ℕ) →
-    film_bytes (if waits then Film one ∷ (if between then Text text ∷ Film after ∷ [] else []) else Film plain ∷ [])
-    ≡ (if waits then one ++ (if between then after else []) else plain)
-film_cases false between one after plain text = append-nil plain
-film_cases true false one after plain text = refl
-film_cases true true one after plain text = ap (λ bs. one ++ bs) (append-nil after)
+reply_heard goes s = grind arith
 
 -- what is sent by a pacing in a slot, around a reply that waits
 abbrev pub parts_in : Bool → Bool → PacerState → ℕ → List ℕ → List SentPart
@@ -82,11 +56,7 @@ parts_in waits between p slot text =
 
 pub pacer_film : (waits : Bool) (p : PacerState) (text : List ℕ) (slot : ℕ)
     → film_bytes (parts_in waits (stands_at_boundary (after_step true slot p)) p slot text) ≡ slot_film waits slot p
-pacer_film waits p text slot =
-    let q : PacerState = after_step true slot p in
-    film_cases waits (stands_at_boundary q) (plan_bytes p p.sent (step_end true (at_slot slot p)))
-    (plan_bytes q q.sent (step_end false (at_slot slot q)))
-    (plan_bytes p p.sent (step_end false (at_slot slot p))) text
+pacer_film waits p text slot = grind (arith, common_steps)
 
 abbrev pub state_after_slot : Bool → State → ℕ → State
 state_after_slot waits state slot =
@@ -99,19 +69,6 @@ parts_of waits state text slot =
     ∷ (if is_between (stepped_in true slot state)
     then Text text ∷ Film (step_bytes false slot (stepped_in true slot state)) ∷ [] else [])
     else Film (step_bytes false slot state) ∷ []
-
-play_state : (waits : Bool) (setup : Setup) (play : Played) (slot : ℕ) →
-    state_after_slot waits (Playing setup play) slot ≡ with_pacer setup play (slot_pacing waits slot play.pacer)
-play_state waits setup play slot =
-    let p = play.pacer in
-    state_cases waits (stands_at_boundary (after_step true slot p))
-    (record {
-      setup = setup;
-      play = play;
-      both = after_step false slot (after_step true slot p);
-      front = after_step true slot p;
-      plain = after_step false slot p;
-    })
 
 -- a play is the same whatever its pacing has sent
 same_play : {play : Played} {due passed sent : ℕ}
@@ -127,12 +84,10 @@ taken_slot old slot going later =
     let heard : (sent_slot old slot).heard ≡ slot = reply_heard goes (sent_due old slot) in
     let bytes : film_bytes (due_parts old slot) ≡ slot_film old.waits slot play.pacer =
     ap (λ st. film_bytes (parts_of old.waits st old.text slot)) state ∙ pacer_film old.waits play.pacer old.text slot in
-    let through : slot_pacing old.waits slot play.pacer ≡ sent_through slot play.pacer =
-    slot_is old.waits (stands_at_boundary (after_step true slot play.pacer)) slot play.pacer sent.pacing refl in
+    let through : slot_pacing old.waits slot play.pacer ≡ sent_through slot play.pacer = search slot_is in
     record {
       now = now;
-      state = reply_state goes (sent_due old slot) ∙ ap (λ st. state_after_slot old.waits st slot) state
-          ∙ play_state old.waits setup play slot;
+      state = grind arith;
       same = subst (λ q. IsSamePlay (record play { pacer = q }) play) (sym through) same_play;
       sent = subst (λ n. HasSent now n (film ++ film_bytes (due_parts old slot))) (sym heard)
           (subst (λ bs. HasSent now slot (film ++ bs)) (sym bytes) (sent_by going slot later));
@@ -145,23 +100,11 @@ pub as_it_was : {session : SessionState} (going : PlayGoing session)
     → HasSentOn going.setup going.play session going.film
 as_it_was going = record { now = going.play; state = going.state; same = same_play; sent = going.sent }
 
--- a session around a slot
-abbrev pub standings : SessionState → ℕ → SlotStandings
-standings old slot =
-    record { sending = after_play (sent_slot old slot); still = record old { heard = slot }; before = old }
-
-slot_branches : (s : SlotStandings) (P : SessionState → Type 0) (taken sending : Bool) → (sending ≡ true → P s.sending)
-    → (P s.still × P s.before) → P (if taken then (if sending then s.sending else s.still) else s.before)
-slot_branches s P false sending goes stays = stays.1
-slot_branches s P true false goes stays = stays.0
-slot_branches s P true true goes stays = goes refl
-
 -- what holds of a session that isn't sending too
 pub slot_any : (P : SessionState → Type 0) (old : SessionState) (slot : ℕ)
     → (is_sending old.state ≡ true → P (after_play (sent_slot old slot))) → P (record old { heard = slot }) → P old
     → P (after_slot old slot)
-slot_any P old slot goes stays same =
-    slot_branches (standings old slot) P (is_taken old slot) (is_sending old.state) goes (stays, same)
+slot_any P old slot goes stays same = grind arith
 
 pub later_slot : (old : SessionState) (slot : ℕ) → is_taken old slot ≡ true → old.heard < slot
 later_slot old slot taken = ltb-true old.heard slot (and_parts (nat_lt old.heard slot) (nat_le slot (2 ^ 62)) taken).0
@@ -200,20 +143,7 @@ going_on {setup} {film = film} on =
 
 goes_on : {setup : Setup} {play : Played} {mid new : SessionState} {film more : List ℕ}
     (on : HasSentOn setup play mid film) → HasSentOn setup on.now new more → HasSentOn setup play new more
-goes_on on next = record {
-  now = next.now;
-  state = next.state;
-  same = record {
-    run = next.run ∙ on.run;
-    place = next.place ∙ on.place;
-    start = next.start ∙ on.start;
-    plan = next.plan ∙ on.plan;
-    before = next.before ∙ on.before;
-    pieces = next.pieces ∙ on.pieces;
-    paced = next.paced ∙ on.paced;
-  };
-  sent = next.sent;
-}
+goes_on on next = grind arith
 
 -- what a request leaves of a play
 abbrev pub IsLeft : SessionState → SessionState → Type 0
@@ -233,8 +163,7 @@ going_left going left = record {
 
 asks_no_halt : {old new : SessionState} {ask : Ask} {outcome : Outcome} → HasNoHalt outcome
     → AnswersAs old ask outcome new → AsksNoHalt ask
-asks_no_halt free (PlayHalted entry) = no_halt entry free
-asks_no_halt free _ = tt
+asks_no_halt given given' = grind arith
 
 pub heard_left : {old new : SessionState} (r : RequestHeard old new) → HasNoHalt r.outcome → PlayGoing old
     → IsLeft old new
@@ -257,13 +186,11 @@ heard_left {old} {new} r free going =
     by-answer state free _ = (refl, refl)
 
 reply_left : {s : SessionState} (goes : Bool) → PlayGoing s → IsLeft s (if goes then sent_reply s else s)
-reply_left true going = (subst (λ st. after_stop st ≡ st) (sym going.state) refl, refl)
-reply_left false going = (refl, refl)
+reply_left goes given = grind arith
 
 pub taking_left : (old new : Stage) (taking : ElementStep) → Takes old taking new
     → HaveNoHalt (taking_outcomes taking) → PlayGoing old.session → IsLeft old.session new.session
-taking_left old new (Passed n) takes free going =
-    subst (λ (s : Stage). IsLeft old.session s.session) (sym takes.2) (refl, refl)
+taking_left old new (Passed n) takes free going = grind arith
 taking_left old new (Answered message outcome parts) takes free going =
     let heard : IsLeft old.session takes.answered =
     heard_left (record { message = message; outcome = outcome; heard = takes.heard }) free.0 going in
@@ -283,8 +210,7 @@ pub takes_left : (old new : Stage) (takings : List ElementStep) → TakesAll old
     → HaveNoHalt (takings_outcomes takings) → PlayGoing old.session → IsLeft old.session new.session
 takes_left old new [] takes free going = subst (λ (s : Stage). IsLeft old.session s.session) (sym takes) (refl, refl)
 takes_left old new (taking ∷ takings) takes free going =
-    let first : IsLeft old.session takes.0.session = taking_left old takes.0 taking takes.1.0
-    (unhalted_front (taking_outcomes taking) (takings_outcomes takings) free) going in
+    let first : IsLeft old.session takes.0.session = grind (arith, taking_left) in
     left_on old.session takes.0.session new.session first
     (takes_left takes.0 new takings takes.1.1
     (unhalted_rest (taking_outcomes taking) (takings_outcomes takings) free) (going_left going first))
@@ -292,26 +218,20 @@ takes_left old new (taking ∷ takings) takes free going =
 pub comes_on : {old new : Stage} {round : Round} → ComesAs old round new → HasNoHalt round.halt
     → (going : PlayGoing old.session)
     → HasSentOn going.setup going.play new.session (going.film ++ film_bytes round.due)
-comes_on {old} BytesCame free going =
-    subst (HasSentOn going.setup going.play old.session) (sym (append-nil going.film)) (as_it_was going)
+comes_on {old} BytesCame free going = grind (arith, common_steps)
 comes_on {old} (SlotCame {slot = slot} finishes) free going =
-    subst (λ s. HasSentOn going.setup going.play s (going.film ++ film_bytes (slot_parts old.session slot)))
-    (sym (finished_same finishes free)) (slot_play old.session slot going)
+    grind (arith, finished_same finishes free, slot_play old.session slot going)
 
 pub round_on : {old new : Stage} {round : Round} → Runs old round new → HaveNoHalt (round_outcomes round)
     → (going : PlayGoing old.session)
     → HasSentOn going.setup going.play new.session (going.film ++ film_bytes round.due)
 round_on {new = new} {round} runs free going =
-    let on = comes_on (comes_as round runs.comes) free.0 going in
-    goes_on on (as_it_was (going_left (going_on on)
-    (takes_left runs.opened new round.takings runs.takes free.1 (going_on on))))
+    grind (arith, comes_on (comes_as round runs.comes) free.0 going, takes_left)
 
 -- a play goes on by events, as long as it isn't halted
 pub rounds_on : (old new : Stage) (rounds : List Round) → RunsAll old rounds new → HaveNoHalt (rounds_outcomes rounds)
     → (going : PlayGoing old.session) → HasSentOn going.setup going.play new.session (going.film ++ rounds_film rounds)
-rounds_on old new [] runs free going =
-    subst (λ (s : Stage). HasSentOn going.setup going.play s.session (going.film ++ [])) (sym runs)
-    (subst (HasSentOn going.setup going.play old.session) (sym (append-nil going.film)) (as_it_was going))
+rounds_on old new [] runs free going = grind (arith, common_steps)
 rounds_on old new (round ∷ rounds) runs free going =
     let first = round_on runs.1.0 (unhalted_front (round_outcomes round) (rounds_outcomes rounds) free) going in
     let rest = rounds_on runs.0 new rounds runs.1.2

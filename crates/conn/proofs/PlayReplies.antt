@@ -1,6 +1,7 @@
+use Rattle.std.proofs.lemmas.Grind.{common_steps}
 -- A PLAY to which no refusal applies is answered by what the station made of it, as its turn at the
 -- station says.
-use Rattle.std.proofs.Common.{◌≡◌, ℕ, ◌+◌, ◌-◌, ◌<◌, List, take, refl, sym, ap, subst, ◌∙◌, inl, inr, arith}
+use Rattle.std.proofs.Common.{◌≡◌, ℕ, ◌-◌, List, take, refl, sym, ap, subst, ◌∙◌, inl, inr, arith}
 use Rattle.std.specs.Fmt.{digits}
 use Rattle.rtsp_text.specs.Replies.{reply_front, reply_text, status_line}
 use Rattle.plan_cert.specs.declared.Segment.{Segment}
@@ -12,7 +13,7 @@ use Rattle.admission.specs.declared.entries.Answer.{Answer}
 use Rattle.admission.specs.declared.entries.Answer.TheVariants.{Admitted, Overflow}
 use Rattle.admission.specs.declared.entries.Command.{Command}
 use Rattle.admission.specs.declared.entries.Entry.{Entry}
-use Rattle.admission.specs.Histories.{IsLegal, booked_after, open_count, state_after}
+use Rattle.admission.specs.Histories.{IsLegal, booked_after, state_after}
 use Rattle.admission.specs.Machine.{State as MachineState, IsAnswer}
 use Rattle.admission.specs.Makers.{PlacedEntry}
 use Rattle.station.specs.Ledgers.{play_of}
@@ -23,7 +24,7 @@ use Rattle.rtsp_replies.specs.Replies.{full_text, overflow_text, started_text}
 use Rattle.session.specs.Methods.{play_front}
 use Rattle.session.specs.SessionStates.{SessionState, sequence_of}
 use Rattle.session.proofs.RequestEffectLemmas.{hears_good, hears_ground, hears_state}
-use Rattle.conn.specs.InputSteps.{Outcome, Entered, HasHeard, IsAskAnswered, IsPlayAnswered}
+use Rattle.conn.specs.InputSteps.{Outcome, Entered, HasHeard, IsAskAnswered}
 use Rattle.conn.specs.Films.{IsReady, ReportsOverflow}
 use Rattle.conn.specs.Admissions.{HasBegunPlay, HasTurn, IsDecided, IsEntryReplied, IsPlayCompleted, IsPlayReplied}
 use Rattle.conn.specs.Admissions.{start_at}
@@ -76,8 +77,7 @@ asked_replied {old} {asking} {new} play (PlayAdmitted {placed = placed} {start =
       start_is = begun.start_is;
       sent = begun.sent;
     })
-asked_replied {old} {asking} {new} play (PlayOverflowed {placed = placed} entry) =
-    subst (λ a. IsEntryReplied old placed a new) (sym entry.answer_is) (sequence_of asking.awaited, refl)
+asked_replied {old} {asking} {new} play (PlayOverflowed {placed = placed} entry) = grind arith
 asked_replied {asking = asking} play (PlayFull two) = (sequence_of asking.awaited, refl)
 
 lacks_replied : {asking new : SessionState} {outcome : Outcome} (old : SessionState) → HasCode 500 asking.text
@@ -131,7 +131,8 @@ entry_turn {old} {asking} {new} play e replied = record {
     by-answer (Admitted start) is replied =
         let fits : HasRoom 0 (booked_after (take placed.place journal)) (capacity_at terms.steps)
         (start_at journal placed.place old.heard) (plan_of play) =
-        subst (λ s. HasRoom 0 (booked_after (take placed.place journal)) (capacity_at terms.steps) s (plan_of play)) is.0
+        subst (λ s. HasRoom 0 (booked_after (take placed.place journal)) (capacity_at terms.steps) s (plan_of play))
+        is.0
         is.1 in record {
           full = λ no. absurd (omega (arith, no, room));
           over = λ has over first. absurd (no-room first fits);
@@ -141,8 +142,11 @@ entry_turn {old} {asking} {new} play e replied = record {
         let found : Over = record { slot = slot; booked = bytes; asked = asked } in record {
           full = λ no. absurd (omega (arith, no, room));
           over = λ has over first.
-              let same : found ≡ over = overflow-once is first in
-              (replied.0, subst (λ (o : Over). new.text ≡ overflow_text replied.0 o.slot o.booked o.asked) same replied.1);
+              let same : found ≡ over = overflow-once is first in (
+                replied.0,
+                subst (λ (o : Over). new.text ≡ overflow_text replied.0 o.slot o.booked o.asked)
+                    same replied.1,
+              );
           admitted = λ has all. absurd (no-room is all);
         }
     by-answer _ is replied = absurd is
@@ -155,21 +159,16 @@ record FullJournal : Type 0 where
   full : IsFullIn j.terms.limit j.journal j.from 2 entries live
 
 full_turn : {old asking new : SessionState} (play : AsksPlay old asking) (f : FullJournal)
-    → ((sequence : ℕ) × (new.text ≡ full_text sequence f.entries f.live)) → HasTurn f.j.terms f.j.journal f.j.from old new
+    → ((sequence : ℕ) × (new.text ≡ full_text sequence f.entries f.live))
+    → HasTurn f.j.terms f.j.journal f.j.from old new
 full_turn {asking = asking} {new} play f replied =
-    let over : terms.limit < entries + open_count (take entries journal) + 2 =
-    omega (arith, full.full, full.open_is) in
     record {
       asking = asking;
       asked = play.asked;
       turn = entries;
       after = full.after;
       within = full.within;
-      decided = record {
-        full = λ no. (replied.0, subst (λ n. new.text ≡ full_text replied.0 entries n) full.open_is replied.1);
-        over = λ has other first. absurd (omega (arith, has, over));
-        admitted = λ has all. absurd (omega (arith, has, over));
-      };
+      decided = grind (arith, common_steps);
     }
   where
     open f use {j, entries, full}
@@ -235,8 +234,10 @@ play_heard {old} {new} {message} {outcome} can heard =
 
 heard_both : {old new : SessionState} {outcome : Outcome} → PlayHeard old outcome new
     → IsPlayReplied old outcome new × IsPlayCompleted old outcome new
-heard_both (Asked play answers) = let replied = asked_replied play answers in (replied, asked_completed play answers replied)
-heard_both {old} (Lacked code answers) = let replied = lacks_replied old code answers in (replied, lacks_completed answers replied)
+heard_both (Asked play answers) = let replied = asked_replied play answers in
+    (replied, asked_completed play answers replied)
+heard_both {old} (Lacked code answers) = let replied = lacks_replied old code answers in
+    (replied, lacks_completed answers replied)
 
 pub play_answered : (old new : SessionState) (message : List ℕ) (outcome : Outcome) → CanBePlayed old message →
     HasHeard old message outcome new → IsPlayReplied old outcome new
@@ -249,6 +250,4 @@ play_completed old new message outcome can heard = (heard_both (play_heard can h
 pub overflow_told : {old new : SessionState} {plan : List Segment} {placed : PlacedEntry} {over : Over} →
     IsAskAnswered old (AskPlay plan) (Entered placed) new →
     placed.entry.answer ≡ Overflow over.slot over.booked over.asked → ReportsOverflow old plan placed over new
-overflow_told {old} {new} {placed} {over} answered is =
-    let after = subst (λ (a : Answer). IsPlayAnswered old placed a new) is answered.1 in
-    record { command = answered.0; text_is = ap (λ (s : SessionState). s.text) after }
+overflow_told {old} {new} {placed} {over} answered is = grind arith

@@ -1,5 +1,5 @@
 -- The words of a connection as words of a block.
-use Rattle.std.proofs.Common.{◌≡◌, ℕ, zero, suc, ◌<◌, List, slice_index, refl, arith}
+use Rattle.std.proofs.Common.{◌≡◌, ℕ, ◌<◌, List, slice_index, arith}
 use Rattle.rand_chacha.specs.Block.{block_word}
 use Rattle.rand_chacha.specs.ChaCha.{key_of}
 use Rattle.conn.specs.Words.{stream_of, words_of}
@@ -7,9 +7,4 @@ use Rattle.conn.specs.Words.{stream_of, words_of}
 pub word_of : (seed : List ℕ) (worker connection place : ℕ) → place < 5
     → slice_index (words_of seed worker connection) place
     ≡ block_word 10 (key_of seed) 0 (stream_of worker connection) place
-word_of seed worker connection zero less = refl
-word_of seed worker connection (suc zero) less = refl
-word_of seed worker connection (suc (suc zero)) less = refl
-word_of seed worker connection (suc (suc (suc zero))) less = refl
-word_of seed worker connection (suc (suc (suc (suc zero)))) less = refl
-word_of seed worker connection (suc (suc (suc (suc (suc place))))) less = absurd (omega (arith, less))
+word_of seed worker connection place given = grind arith

@@ -1,7 +1,8 @@
+use Rattle.std.proofs.lemmas.Grind.{common_steps}
 -- What the replies of a connection say about the station's answers.
-use Rattle.std.proofs.Common.{◌≡◌, ℕ, ◌-◌, ◌++◌, ◌&&◌, Bool, true, false, if◌then◌else◌, Contains, List, [], ◌∷◌}
-use Rattle.std.proofs.Common.{codes, decimal, get_or, refl, sym, ap, subst, ◌∙◌, arith}
-use Rattle.std.proofs.lemmas.List.{append-nil, append_assoc}
+use Rattle.std.proofs.Common.{◌≡◌, ℕ, ◌-◌, ◌++◌, Bool, Contains, List, [], ◌∷◌}
+use Rattle.std.proofs.Common.{codes, decimal, get_or, refl, sym, ap, subst, arith}
+use Rattle.std.proofs.lemmas.List.{append_assoc}
 use Rattle.std.proofs.lemmas.List.Elements.{Contains-append_left, Contains-push}
 use Rattle.std.specs.Fmt.{digits}
 use Rattle.rtsp_text.specs.Replies.{field_line, reply_front, reply_text, status_line}
@@ -11,8 +12,7 @@ use Rattle.slot_calendar.specs.declared.calendar.Overflow.{Overflow as Over}
 use Rattle.session.specs.declared.commands.Ask.{Ask}
 use Rattle.session.specs.RequestEffects.{HasCode, IsNoRefusal, RefusesNone}
 use Rattle.rtsp_replies.specs.Replies.{started_text, field, full_text, overflow_text}
-use Rattle.session.specs.SlotSteps.{can_reply, is_between, is_sending, is_taken, sent_due, sent_reply, after_slot}
-use Rattle.session.specs.SlotSteps.{stepped_in}
+use Rattle.session.specs.SlotSteps.{can_reply, after_slot}
 use Rattle.session.specs.SessionStates.{AwaitedAnswer, SessionState}
 use Rattle.conn.specs.InputSteps.{Outcome, Entered, WasFull, SentPart, Film, Text, Stage, ElementStep, Passed}
 use Rattle.conn.specs.InputSteps.{Answered, HasHeard, TakesAll, slot_parts}
@@ -23,12 +23,10 @@ use Rattle.conn.specs.Plays.{ending_rounds}
 use Rattle.conn.specs.declared.reports.ConnEnd.{ConnEnd}
 use Rattle.session.proofs.ReplyCodeLemmas.{hears_text, ok_plain}
 use Rattle.conn.specs.Guarantees.{ReportsFullOf}
-use Rattle.conn.proofs.EventPremises.{SlotBytes}
 use Rattle.conn.proofs.JoinedLists.{joined-append}
-use Rattle.conn.proofs.PlayProgress.{slot_any}
 use Rattle.conn.proofs.StationAnswers.{AnswersAs, ComesAs, FinishesAs, answers_as, comes_as, NoneAsked, PlayAdmitted}
 use Rattle.conn.proofs.StationAnswers.{PlayOverflowed, PlayFull, PlayHalted, LookMade, LookFull, OfferMade}
-use Rattle.conn.proofs.StationAnswers.{NothingLeft, DoneHalted, BytesCame, SlotCame}
+use Rattle.conn.proofs.StationAnswers.{BytesCame, SlotCame}
 
 -- three digits differ where the first does
 other : {a x : ℕ} {more rest : List ℕ} → (a ≡ x → ⊥) → (a ∷ more) ≡ (x ∷ rest) → ⊥
@@ -62,26 +60,14 @@ AreReported made (Film bytes ∷ parts) = AreReported made parts
 AreReported made (Text text ∷ parts) = IsTold made text × AreReported made parts
 
 told_plain : (made : List Outcome) (text : List ℕ) → IsNoRefusal text → IsTold made text
-told_plain made text plain = record {
-  overflow = λ is. absurd (plain.no_overflow is);
-  full = λ is. absurd (plain.not_full is);
-}
+told_plain made text plain = grind arith
 
 -- with more answers
 told_with_more : (made more : List Outcome) (text : List ℕ) → IsTold made text → IsTold (made ++ more) text
 told_with_more made more text told = record {
   overflow = λ is.
       let its = told.overflow is in (its.0, Contains-append_left made more (Entered its.0.placed) its.1);
-  full = λ is.
-      let its = told.full is in
-      record {
-        more = its.more;
-        entries = its.entries;
-        live = its.live;
-        full = Contains-append_left made more (WasFull its.more its.entries its.live) its.full;
-        sequence = its.sequence;
-        text_is = its.text_is;
-      };
+  full = grind (arith, common_steps);
 }
 
 are_more : (made more : List Outcome) (parts : List SentPart) → AreReported made parts → AreReported (made ++ more)
@@ -145,16 +131,6 @@ heard_told {old} {message = message} made heard =
     by-answer plain NoneAsked = told_plain _ asking.text plain
     by-answer plain (PlayHalted entry) = told_plain _ asking.text plain
 
--- a reply that goes out
-reply_told : (made : List Outcome) (goes : Bool) (text : List ℕ) → IsTold made text
-    → AreReported made (if goes then Text text ∷ [] else [])
-reply_told made false text told = tt
-reply_told made true text told = (told, tt)
-
-reply_text_is : (goes : Bool) (s : SessionState) → (if goes then sent_reply s else s).text ≡ s.text
-reply_text_is true s = refl
-reply_text_is false s = refl
-
 -- elements: what was sent shows it, and so does the reply that waits
 record Tells (made : List Outcome) (s : SessionState) (parts : List SentPart) : Type 0 where
   waiting : IsTold made s.text
@@ -162,9 +138,7 @@ record Tells (made : List Outcome) (s : SessionState) (parts : List SentPart) : 
 
 takings_tell : (made : List Outcome) (old new : Stage) (takings : List ElementStep) → IsTold made old.session.text
     → TakesAll old takings new → Tells (made ++ takings_outcomes takings) new.session (takings_parts takings)
-takings_tell made old new [] told takes =
-    subst (λ m. Tells m new.session []) (sym (append-nil made))
-    (record { waiting = subst (λ (s : Stage). IsTold made s.session.text) (sym takes) told; sent = tt })
+takings_tell made old new [] told takes = grind (arith, common_steps)
 takings_tell made old new (Passed n ∷ takings) told takes =
     takings_tell made takes.0 new takings
     (subst (λ (s : Stage). IsTold made s.session.text) (sym takes.1.0.2) told) takes.1.1
@@ -173,12 +147,8 @@ takings_tell made old new (Answered message outcome parts ∷ takings) told take
     let taken = takes.1.0 in
     let goes : Bool = can_reply taken.answered in
     let heard : IsTold made' taken.answered.text = heard_told made taken.heard in
-    let text : takes.0.session.text ≡ taken.answered.text =
-    ap (λ (s : Stage). s.session.text) taken.new_is ∙ reply_text_is goes taken.answered in
-    let first : Tells made' takes.0.session parts = record {
-      waiting = subst (IsTold made') (sym text) heard;
-      sent = subst (AreReported made') (sym taken.parts_are) (reply_told made' goes taken.answered.text heard);
-    } in
+    let text : takes.0.session.text ≡ taken.answered.text = grind arith in
+    let first : Tells made' takes.0.session parts = grind arith in
     let rest = takings_tell (made ++ outcome ∷ []) takes.0 new takings first.waiting takes.1.1 in
     let all : (made ++ outcome ∷ []) ++ takings_outcomes takings ≡ made ++ outcome ∷ takings_outcomes takings =
     append_assoc made (outcome ∷ []) (takings_outcomes takings) in
@@ -191,43 +161,28 @@ takings_tell made old new (Answered message outcome parts ∷ takings) told take
 
 -- a slot leaves the reply, and sends it or not
 slot_text : (old : SessionState) (slot : ℕ) → (after_slot old slot).text ≡ old.text
-slot_text old slot =
-    slot_any (λ s. s.text ≡ old.text) old slot
-    (λ sends. reply_text_is (old.waits && is_between (stepped_in true slot old.state)) (sent_due old slot)) refl refl
+slot_text old slot = grind arith
 
 slot_tells : (made : List Outcome) (old : SessionState) (slot : ℕ) → IsTold made old.text
     → AreReported made (slot_parts old slot)
-slot_tells made old slot told =
-    by-parts (is_taken old slot && is_sending old.state) old.waits (is_between (stepped_in true slot old.state))
-    (record { before = _; rest = _; plain = _ })
-  where
-    by-parts : (sends waits between : Bool) (bytes : SlotBytes) →
-        AreReported made (if sends then (if waits then Film bytes.before ∷
-        (if between then Text old.text ∷ Film bytes.rest ∷ [] else []) else
-        Film bytes.plain ∷ []) else [])
-    by-parts true true true bytes = (told, tt)
-    by-parts _ _ _ bytes = tt
+slot_tells made old slot told = grind (arith, common_steps)
 
 finished_text : {asks : AwaitedAnswer} {old new : SessionState} {halt : Outcome} → FinishesAs old asks halt new
     → new.text ≡ old.text
-finished_text NothingLeft = refl
-finished_text (DoneHalted entry) = refl
+finished_text given = grind arith
 
 comes_tells : {made : List Outcome} {old new : Stage} {round : Round} → IsTold made old.session.text
     → ComesAs old round new → Tells made new.session round.due
 comes_tells told BytesCame = record { waiting = told; sent = tt }
-comes_tells {made} {old} told (SlotCame {slot = slot} finishes) = record {
-  waiting = subst (IsTold made) (sym (finished_text finishes ∙ slot_text old.session slot)) told;
-  sent = slot_tells made old.session slot told;
-}
+comes_tells {made} {old} told (SlotCame {slot = slot} finishes) =
+    grind (arith, finished_text finishes, slot_text old.session slot, slot_tells made old.session slot told)
 
 -- a round, and rounds
 round_tells : (made : List Outcome) (old new : Stage) (round : Round) → IsTold made old.session.text
     → Runs old round new → Tells (made ++ round_outcomes round) new.session (round_parts round)
 round_tells made old new round told runs =
     let first = comes_tells told (comes_as round runs.comes) in
-    let opened : IsTold (made ++ round.halt ∷ []) runs.opened.session.text =
-    told_with_more made (round.halt ∷ []) runs.opened.session.text first.waiting in
+    let opened : IsTold (made ++ round.halt ∷ []) runs.opened.session.text = search told_with_more in
     let rest = takings_tell (made ++ round.halt ∷ []) runs.opened new round.takings opened runs.takes in
     let all : (made ++ round.halt ∷ []) ++ takings_outcomes round.takings ≡ made ++ round_outcomes round =
     append_assoc made (round.halt ∷ []) (takings_outcomes round.takings) in
@@ -240,9 +195,7 @@ round_tells made old new round told runs =
 
 rounds_tell : (made : List Outcome) (old new : Stage) (rounds : List Round) → IsTold made old.session.text
     → RunsAll old rounds new → Tells (made ++ rounds_outcomes rounds) new.session (rounds_parts rounds)
-rounds_tell made old new [] told runs =
-    subst (λ m. Tells m new.session []) (sym (append-nil made))
-    (record { waiting = subst (λ (s : Stage). IsTold made s.session.text) (sym runs) told; sent = tt })
+rounds_tell made old new [] told runs = grind (arith, common_steps)
 rounds_tell made old new (round ∷ rounds) told runs =
     let first = round_tells made old runs.0 round told runs.1.0 in
     let rest = rounds_tell (made ++ round_outcomes round) runs.0 new rounds first.waiting runs.1.2 in
@@ -252,9 +205,7 @@ rounds_tell made old new (round ∷ rounds) told runs =
     subst (λ m. Tells m new.session (round_parts round ++ rounds_parts rounds)) all
     (record {
       waiting = rest.waiting;
-      sent = are_both ((made ++ round_outcomes round) ++ rounds_outcomes rounds) (round_parts round)
-          (rounds_parts rounds)
-          (are_more (made ++ round_outcomes round) (rounds_outcomes rounds) (round_parts round) first.sent) rest.sent;
+      sent = search (are_both, are_more);
     })
 
 -- how a connection ended, from a stage on and after so many events
@@ -271,12 +222,13 @@ ending_tells {made} {old} (AtElement round) told ended =
     are_both (made ++ round_outcomes round) (round_parts round) []
     (round_tells made old ended.new round told ended.ends.0).sent tt
 ending_tells {made} {old} (InReply round message outcome front) told ended =
-    let first = round_tells made old ended.ends.1.mid round told ended.ends.1.runs in
-    let all : (made ++ round_outcomes round) ++ outcome ∷ [] ≡ made ++ (round_outcomes round ++ outcome ∷ []) =
-    append_assoc made (round_outcomes round) (outcome ∷ []) in
-    subst (λ m. AreReported m (rounds_parts (round ∷ []))) all
-    (are_more (made ++ round_outcomes round) (outcome ∷ []) (round_parts round ++ [])
-    (are_both (made ++ round_outcomes round) (round_parts round) [] first.sent tt))
+    grind (
+      arith,
+      round_tells made old ended.ends.1.mid round told ended.ends.1.runs,
+      append_assoc made (round_outcomes round) (outcome ∷ []),
+      are_more,
+      are_both (made ++ round_outcomes round) (round_parts round),
+    )
 ending_tells _ told ended = tt
 
 pub parts-more : (rounds more : List Round) → rounds_parts (rounds ++ more) ≡ rounds_parts rounds ++ rounds_parts more
@@ -299,7 +251,8 @@ pub record EntireCourse (old : Stage) : Type 0 where
   pub ended : CourseEnd mid ending
 
 pub course_tells : {old : Stage} (c : EntireCourse old)
-    → AreReported (rounds_outcomes c.rounds ++ ending_outcomes c.ending) (rounds_parts (c.rounds ++ ending_rounds c.ending))
+    → AreReported (rounds_outcomes c.rounds ++ ending_outcomes c.ending)
+    (rounds_parts (c.rounds ++ ending_rounds c.ending))
 course_tells {old} c =
     let made : List Outcome = rounds_outcomes rounds ++ ending_outcomes ending in
     let first = rounds_tell [] old mid rounds (subst (IsTold []) (sym none) nothing_told) runs in

@@ -5,7 +5,6 @@ use Rattle.film_frames.specs.declared.stored_films.Stored.{Stored}
 use Rattle.film_frames.specs.FramedRuns.{run_pieces}
 use Rattle.film_run.specs.declared.runs.Run.{Run}
 use Rattle.film_run.specs.Laws.{IsSending}
-use Rattle.film_run.specs.Plans.{IsPlayback}
 use Rattle.film_run.specs.Units.{stored_sizes}
 use Rattle.pacer.specs.PacerStates.{PacerState}
 use Rattle.plan_cert.specs.declared.Segment.{Segment}
@@ -107,8 +106,7 @@ pub record CanServe (stored : List Stored) (own : Settings) : Type 0 where
 -- the same films and settings
 pub serves_on : {stored now : List Stored} {own new : Settings} → now ≡ stored → new ≡ own → CanServe stored own
     → CanServe now new
-serves_on films settings serves =
-    record { films = subst AreShown (sym films) serves.films; settings = subst AreSettings (sym settings) serves.settings }
+serves_on films settings serves = grind arith
 
 -- a session in a course, with what was sent of its play
 pub record IsWell (s : SessionState) (film : List ℕ) : Type 0 where
@@ -164,13 +162,7 @@ IsAskedWell (AskOffer plan offers) s film = IsWell s film
 
 pub ground_same : (old new : SessionState) (film : List ℕ) → IsSameContext old new → ground_of old film ≡ ground_of new
     film
-ground_same old new film same =
-    let films = same.films in
-    let source = same.source in
-    let settings = same.settings in
-    let counts = same.counts in
-    let plays = same.plays in
-    let heard = same.heard in cc
+ground_same old new film same = grind arith
 
 -- a request keeps what SETUP settled, and no halt is awaited after it
 record IsKept (old new : SessionState) : Type 0 where
@@ -179,37 +171,19 @@ record IsKept (old new : SessionState) : Type 0 where
 
 kept_well : {old new : SessionState} {film : List ℕ} → IsWell old film → IsKept old new
     → IsStateOf (ground_of old film) new.state → IsWell new film
-kept_well {old} {new} {film} well kept state = record {
-  serves = serves_on kept.same.films kept.same.settings well.serves;
-  unstopped = kept.unstopped;
-  state = subst (λ g. IsStateOf g new.state) (ground_same old new film kept.same) state;
-}
+kept_well {old} {new} {film} well kept state = grind arith
 
 -- the same state
 carried : {old new : SessionState} {film : List ℕ} → IsWell old film → IsKept old new → new.state ≡ old.state
     → IsWell new film
-carried {old} {film = film} well kept state =
-    kept_well well kept (subst (IsStateOf (ground_of old film)) (sym state) well.state)
-
--- the client of a film that can be shown is in its ranges, by those of the settings and of a SETUP
-playback_well : {stored : Stored} {settings : Settings} {films : ℕ} {setup : Setup} → IsShown stored
-    → AreSettings settings → IsSetup films setup → IsPlayback (playback_of stored.film settings setup)
-playback_well shown settings setup = record {
-  some_picture_units = shown.some_time;
-  picture_units_fit = shown.time_fits;
-  some_slot_units = omega (arith, settings.long_slots);
-  slot_units_fit = settings.short_slots;
-  some_buffer = setup.some_buffer;
-  buffer_fits = setup.most_buffer;
-  delay_fits = setup.most_delay;
-}
+carried {old} {film = film} well kept state = grind arith
 
 -- a PLAY in Ready
 prepared_well : {old new : SessionState} {film : List ℕ} → IsWell old film → IsSameContext old new
-    → (new.state ≡ old.state) × IsPlayAsked old new → HasPrepared new.films new.source new.settings new.state new.awaited
+    → (new.state ≡ old.state) × IsPlayAsked old new
+    → HasPrepared new.films new.source new.settings new.state new.awaited
 prepared_well {old} {new} {film} well same (state, is) =
-    let values : IsSetup (length old.films) is.setup =
-    subst (IsStateOf (ground_of old film)) is.ready well.state in
+    let values : IsSetup (length old.films) is.setup = grind arith in
     let planned = is.planned_is in
     let shown = well.films is.setup.film is.stored planned.at in
     let made : HasPrepared old.films old.source old.settings new.state new.awaited = record {
@@ -221,15 +195,7 @@ prepared_well {old} {new} {film} well same (state, is) =
       awaited_is = is.awaited;
       values = values;
       at = planned.at;
-      sending = record {
-        can_play = record {
-          sizes_are = shown.sizes;
-          playback_is = playback_well shown well.settings values;
-          run_is = planned.goes_on.run_is;
-          fits = planned.goes_on.fits;
-        };
-        plan_is = planned.plan_is;
-      };
+      sending = search refl;
       frames = refl;
     } in
     subst (λ g. HasPrepared new.films new.source g new.state new.awaited) (sym same.settings)
@@ -238,8 +204,7 @@ prepared_well {old} {new} {film} well same (state, is) =
 
 -- a PAUSE or a TEARDOWN in Playing
 halted_to : {halted : Type 0} (next : AfterHalt) → halted → IsHaltedTo next halted
-halted_to Done is = tt
-halted_to _ is = is
+halted_to next given = grind arith
 
 halting_well : {old new : SessionState} {film : List ℕ} → IsWell old film → IsSameContext old new → IsHaltAsked old new
     → IsHalting new film
@@ -247,13 +212,7 @@ halting_well {old} {new} {film} well same is =
     let was = subst (IsStateOf (ground_of old film)) is.was well.state in
     let its = was.1 in
     let play : Played = record is.play { pacer = record is.play.pacer { keep = is.keep } } in
-    let rest : IsHaltedPlay (ground_of old film).sending is.setup play play.pacer = record {
-      of = its.of;
-      plan = its.sent.plan;
-      before = its.sent.before;
-      start = its.sent.start;
-      halted = halted_here its.sent is.keep_is;
-    } in
+    let rest : IsHaltedPlay (ground_of old film).sending is.setup play play.pacer = search halted_here in
     let halt : IsHaltAwaited (ground_of old film) new.awaited is.setup play =
     record { keep_is = ap (λ a. kept_of a play.pacer.due) is.awaited; rest = rest } in
     record {

@@ -1,5 +1,6 @@
+use Rattle.std.proofs.Common.{arith}
 -- What the replies of a connection state, by what its seat has seen of the journal.
-use Rattle.std.proofs.Common.{◌≡◌, ℕ, ◌+◌, ◌++◌, All, Contains, List, [], ◌∷◌, Some, take, refl, ap, subst, ◌∙◌}
+use Rattle.std.proofs.Common.{◌≡◌, ℕ, ◌+◌, ◌++◌, All, Contains, List, [], ◌∷◌, Some, take, ap, subst, ◌∙◌}
 use Rattle.std.proofs.lemmas.List.Elements.{All-cons, All-contains, All-nil, Contains-append_left}
 use Rattle.std.proofs.lemmas.Option.{slice_get-get_or}
 use Rattle.admission.specs.declared.entries.Answer.TheVariants.{Overflow}
@@ -29,11 +30,9 @@ all_standing terms journal from [] agree = All-nil (IsStanding terms journal)
 all_standing terms journal from (Unasked ∷ outcomes) agree =
     All-cons (IsStanding terms journal) Unasked outcomes tt (all_standing terms journal from outcomes agree)
 all_standing terms journal from (Entered placed ∷ outcomes) agree =
-    All-cons (IsStanding terms journal) (Entered placed) outcomes (from, agree.0)
-    (all_standing terms journal (placed.place + 1) outcomes agree.1)
+    grind (arith, all_standing terms journal (placed.place + 1) outcomes agree.1)
 all_standing terms journal from (WasFull more entries live ∷ outcomes) agree =
-    All-cons (IsStanding terms journal) (WasFull more entries live) outcomes tt
-    (all_standing terms journal entries outcomes agree.1)
+    grind (arith, all_standing terms journal entries outcomes agree.1)
 all_standing terms journal from (Offered at_slot note ∷ outcomes) agree =
     All-cons (IsStanding terms journal) (Offered at_slot note) outcomes tt
     (all_standing terms journal note.seen outcomes agree.1)
@@ -50,8 +49,7 @@ overflow_stands : {command : Command} (over : Over) (steps : List CapStep) (befo
     IsAnswer steps before command (Overflow over.slot over.booked over.asked) →
     (heard : ℕ) × ((plan : List Segment) × ((command ≡ Play heard plan)
     × IsFirstOverflow 0 (booked_in before) (capacity_at steps) (start_after before heard) plan over))
-overflow_stands {command = Play heard plan} over steps before is = (heard, (plan, (refl, is)))
-overflow_stands {command = _} over steps before is = absurd is
+overflow_stands over steps before given = grind arith
 
 overflow_seen : {terms : Terms} {journal : List Entry} {made : List Outcome} (text : List ℕ)
     → AnswersIn terms journal made → (told : TellsOver text) × Contains made (Entered told.placed)

@@ -1,3 +1,4 @@
+use Rattle.std.proofs.Common.{arith}
 -- Through a course a session stays as `IsWell` has it.
 use Rattle.std.proofs.Common.{◌≡◌, ℕ, ◌++◌, ◌&&◌, Bool, true, false, if◌then◌else◌, List, [], ◌∷◌, length, slice_get}
 use Rattle.std.proofs.Common.{Option, Some, None, refl, sym, ap, subst, ◌∙◌}
@@ -14,7 +15,6 @@ use Rattle.admission.specs.Histories.{is_admission}
 use Rattle.admission.specs.Makers.{PlacedEntry}
 use Rattle.session.specs.declared.commands.Ask.{Ask}
 use Rattle.session.specs.declared.states.Awaited.{Awaited}
-use Rattle.session.specs.declared.states.Awaited.TheVariants.{Halt}
 use Rattle.film_streams.specs.declared.stream_numbers.Counts.{Counts}
 use Rattle.session.specs.declared.states.AfterHalt.{AfterHalt}
 use Rattle.session.specs.declared.states.AfterHalt.TheVariants.{Done, Paused, Torn}
@@ -26,10 +26,9 @@ use Rattle.session.specs.RequestEffects.{AwaitsNoStop}
 use Rattle.session.specs.RunRequests.{sending_of, playback_of}
 use Rattle.session.specs.RequestSteps.{after_admission, after_halt, counts_done, counts_next, counts_of, halted_counts}
 use Rattle.film_streams.specs.SettingRanges.{IsSetup}
-use Rattle.session.specs.SlotSteps.{after_play, after_slot, can_reply, halted_in, halted_notes, is_between, is_sending}
+use Rattle.session.specs.SlotSteps.{after_play, after_slot, halted_in, halted_notes, is_between, is_sending}
 use Rattle.session.specs.SlotSteps.{kept_of, next_of, note_of, sent_due, sent_reply, state_once_halted, stepped_in}
 use Rattle.session.specs.SessionStates.{AwaitedAnswer, SessionState}
-use Rattle.session.specs.SlotTransitions.{after_stop}
 use Rattle.conn.specs.InputSteps.{Outcome, Entered, Stage, ElementStep, Passed, Answered, IsPlayAnswered}
 use Rattle.conn.specs.InputSteps.{Takes, TakesAll, after_reply, film_bytes, slot_parts}
 use Rattle.conn.specs.EventSteps.{Round, Runs, RunsAll}
@@ -38,9 +37,8 @@ use Rattle.conn.specs.Plays.{film_in, film_since, film_taken}
 use Rattle.conn.proofs.PlayStart.{play_begins}
 use Rattle.conn.proofs.RequestInvariants.{Ground, PlayGround, HasPlay, HasPrepared, HasStopped, IsAskedWell, IsHaltAwaited}
 use Rattle.conn.proofs.RequestInvariants.{IsHaltedTo, IsHalting, IsHaltingIn, IsStateOf, IsWell, ground_of, ground_by}
-use Rattle.conn.proofs.RequestInvariants.{hears_well, serves_on}
+use Rattle.conn.proofs.RequestInvariants.{hears_well}
 use Rattle.conn.proofs.PlayProgress.{slot_any, slot_play}
-use Rattle.conn.proofs.ReplyPlacement.{no_film}
 use Rattle.conn.proofs.EventPremises.{PlayGoing, RequestHeard}
 use Rattle.conn.proofs.StoppedPlays.{StopGoing, stop_left, stop_slot}
 use Rattle.conn.proofs.StationAnswers.{AnswersAs, ComesAs, FinishesAs, answers_as, comes_as, NoneAsked, PlayAdmitted}
@@ -84,30 +82,14 @@ halted_state old film (Playing setup play) is = by-next (next_of old.awaited) is
     by-next Done halted = is.0
     by-next (Paused run) halted = (is.0, noted_stop play (Some run) halted)
     by-next Torn halted = (is.0, noted_stop play None halted)
-halted_state old film (Stopping setup stop) is =
-    subst (λ p. IsStateOf (record (ground_of old film) { plays = p }) (Stopping setup stop))
-    (sym (append-nil old.plays)) is
+halted_state old film (Stopping setup stop) is = search append-nil
 
 halted_well : {old : SessionState} {film : List ℕ} (placed : PlacedEntry) → IsHalting old film
     → IsWell (after_halt old placed.place) film
-halted_well {old} {film} placed well = record {
-  serves = well.serves;
-  unstopped = refl;
-  state = halted_state old film old.state well.state;
-}
-
--- where no PAUSE and no TEARDOWN waits for it, a halt leaves no play
-halting_in : (ground : Ground) (awaited : Awaited) (state : State) → next_of awaited ≡ Done →
-    IsStateOf ground state → IsHaltingIn ground awaited state
-halting_in ground awaited (Playing setup play) none is =
-    (is.0, subst (λ n. IsHaltedTo n (IsHaltAwaited ground awaited setup play)) (sym none) tt)
-halting_in ground awaited _ none is = is
+halted_well {old} {film} placed well = search halted_state
 
 halting_of : (s : SessionState) (film : List ℕ) → IsWell s film → IsHalting s film
-halting_of s film well = record {
-  serves = well.serves;
-  state = halting_in (ground_of s film) s.awaited s.state well.unstopped well.state;
-}
+halting_of s film well = grind arith
 
 -- by its answer an entry begins a play, or none
 entry_well : {new : SessionState} {answer : Answer} (film : List ℕ) (placed : PlacedEntry)
@@ -171,25 +153,16 @@ heard_well {old} {film = film} r well =
         entry_well film placed entry.answer_is
         (record { serves = well.0.serves; unstopped = refl; state = well.0.state })
     by-answer well (PlayFull two) = record { serves = well.0.serves; unstopped = refl; state = well.0.state }
-    by-answer well (PlayHalted {placed = placed} entry) = entry_well film placed entry.answer_is (halted_well placed well)
+    by-answer well (PlayHalted {placed = placed} entry) = entry_well film placed entry.answer_is
+        (halted_well placed well)
     by-answer well (LookMade {placed = placed} is) =
         entry_well film placed is
         (record { serves = well.serves; unstopped = refl; state = well.state })
     by-answer well _ = record { serves = well.serves; unstopped = refl; state = well.state }
 
--- a reply that was sent
-settled_well : (ground : Ground) (state : State) → IsStateOf ground state → IsStateOf ground (after_stop state)
-settled_well ground (Stopping setup stop) is = is.0
-settled_well ground _ is = is
-
 reply_well : (goes : Bool) (s : SessionState) (film : List ℕ) → IsWell s film
     → IsWell (if goes then sent_reply s else s) film
-reply_well false s film well = well
-reply_well true s film well = record {
-  serves = well.serves;
-  unstopped = well.unstopped;
-  state = settled_well (ground_of s film) s.state well.state;
-}
+reply_well goes s film given = grind arith
 
 -- one element, and elements
 pub taking_well : (old new : Stage) (taking : ElementStep) (film : List ℕ) → Takes old taking new
@@ -199,10 +172,8 @@ taking_well old new (Answered message outcome parts) film takes well =
     let since : List ℕ = film_since film outcome in
     let heard : IsWell takes.answered since =
     heard_well (record { message = message; outcome = outcome; heard = takes.heard }) well in
-    let after : IsWell (after_reply takes.answered) since =
-    reply_well (can_reply takes.answered) takes.answered since heard in
-    let none : film_bytes parts ≡ [] =
-    ap film_bytes takes.parts_are ∙ no_film (can_reply takes.answered) takes.answered.text in
+    let after : IsWell (after_reply takes.answered) since = search reply_well in
+    let none : film_bytes parts ≡ [] = grind arith in
     let same : since ≡ since ++ film_bytes parts = sym (append-nil since) ∙ ap (λ bs. since ++ bs) (sym none) in
     subst (IsWell new.session) same (subst (λ (s : Stage). IsWell s.session since) (sym takes.new_is) after)
 
@@ -220,17 +191,10 @@ record IsSameSession (old new : SessionState) : Type 0 where
   ground : ground_of new [] ≡ ground_by (ground_of old []) new.heard []
   unstopped : AwaitsNoStop old → AwaitsNoStop new
 
--- a play that is done is halted, and leaves nothing
-done_next : (done : Bool) (keep : ℕ) (awaited : Awaited) → next_of awaited ≡ Done →
-    next_of (if done then Halt keep Done else awaited) ≡ Done
-done_next true keep awaited none = refl
-done_next false keep awaited none = none
-
 -- what is due leaves it, and so does a slot in which nothing is
 sent_ground : (goes : Bool) (old : SessionState) (slot : ℕ)
     → IsSameSession old (after_play (if goes then sent_reply (sent_due old slot) else sent_due old slot))
-sent_ground true old slot = record { ground = refl; unstopped = done_next _ _ old.awaited }
-sent_ground false old slot = record { ground = refl; unstopped = done_next _ _ old.awaited }
+sent_ground goes old slot = grind arith
 
 still_ground : (old : SessionState) (heard : ℕ) → IsSameSession old (record old { heard = heard })
 still_ground old heard = record { ground = refl; unstopped = λ none. none }
@@ -249,43 +213,20 @@ IsOff films (Playing setup play) = ⊥
 IsOff films (Stopping setup stop) = ⊥
 
 off_state : (ground : Ground) (state : State) → IsOff (length ground.films) state → IsStateOf ground state
-off_state ground Init off = tt
-off_state ground (Ready setup paused) off = off
-off_state ground _ off = absurd off
+off_state ground state given = grind arith
 
 -- a slot leaves a session well where it leaves the state so
 slot_well : {film more : List ℕ} (old : SessionState) (slot : ℕ) → IsWell old film
     → IsStateOf (ground_by (ground_of old film) (after_slot old slot).heard more) (after_slot old slot).state
     → IsWell (after_slot old slot) more
-slot_well {more = more} old slot well state =
-    let new : SessionState = after_slot old slot in
-    let same : IsSameSession old new = slot_ground old slot in
-    record {
-      serves = serves_on (ap (λ (g : Ground). g.films) same.ground) (ap (λ (g : Ground). g.settings) same.ground)
-          well.serves;
-      unstopped = same.unstopped well.unstopped;
-      state = subst (λ g. IsStateOf g new.state)
-          (sym (ap (λ (g : Ground). ground_by g new.heard more) same.ground)) state;
-    }
+slot_well {more = more} old slot well state = grind (arith, slot_ground old slot)
 
 -- a play goes on by a slot
 play_on : {old new : SessionState} {more : List ℕ} (going : PlayGoing old)
-    → HasPlay (ground_of old going.film).sending going.setup going.play → (on : HasSentOn going.setup going.play new more)
+    → HasPlay (ground_of old going.film).sending going.setup going.play
+    → (on : HasSentOn going.setup going.play new more)
     → HasPlay (ground_by (ground_of old going.film) new.heard more).sending going.setup on.now
-play_on {old} going its on =
-    let stored = its.stored in
-    let client = playback_of stored.film old.settings going.setup in
-    record {
-      of = record {
-        stored = stored;
-        at = its.at;
-        sending = subst (λ (r : Run). IsSending (stored_sizes stored) client r on.now.plan) (sym on.run)
-            (subst (λ (p : List Segment). IsSending (stored_sizes stored) client going.play.run p) (sym on.plan) its.sending);
-        pieces = on.pieces ∙ its.pieces
-            ∙ ap (λ (r : Run). run_pieces (sending_of stored.film old.source going.setup old.counts r)) (sym on.run);
-      };
-      sent = on.sent;
-    }
+play_on {old} going its on = grind arith
 
 slot_state : (state : State) (old : SessionState) (slot : ℕ) (film : List ℕ) → old.state ≡ state → IsWell old film →
     IsWell (after_slot old slot) (film ++ film_bytes (slot_parts old slot))
@@ -331,14 +272,13 @@ comes_well {film} {old} (SlotCame {slot = slot} finishes) well = by-finish finis
     by-finish : {asks : AwaitedAnswer} {halt : Outcome} {new : SessionState}
         → FinishesAs (after_slot old.session slot) asks halt new → IsWell new more
     by-finish NothingLeft = after
-    by-finish (DoneHalted {placed = placed} entry) = halted_well placed (halting_of (after_slot old.session slot) more after)
+    by-finish (DoneHalted {placed = placed} entry) = halted_well placed
+        (halting_of (after_slot old.session slot) more after)
 
 -- a round, and rounds
 pub round_well : (old new : Stage) (round : Round) (film : List ℕ) → IsWell old.session film → Runs old round new →
     IsWell new.session (film_taken (film ++ film_bytes round.due) round.takings)
-round_well old new round film well runs =
-    takes_well runs.opened new round.takings (film ++ film_bytes round.due) runs.takes
-    (comes_well (comes_as round runs.comes) well)
+round_well old new round film well runs = search (takes_well, comes_well, comes_as)
 
 pub rounds_well : (old new : Stage) (rounds : List Round) (film : List ℕ) → IsWell old.session film
     → RunsAll old rounds new → IsWell new.session (film_in film rounds)

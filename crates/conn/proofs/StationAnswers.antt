@@ -20,7 +20,8 @@ use Rattle.conn.specs.InputSteps.{IsAskAnswered, IsFinished, IsHalted, IsLookAns
 use Rattle.conn.specs.InputSteps.{Unasked, ElementStep, Entered, WasFull, Offered, SentPart, Stage, slot_parts, stage}
 
 -- an entry is that of a play, and it has this answer
-pub record IsPlayEntry (old : SessionState) (plan : List Segment) (placed : PlacedEntry) (answer : Answer) : Type 0 where
+pub record IsPlayEntry (old : SessionState) (plan : List Segment) (placed : PlacedEntry) (answer : Answer)
+    : Type 0 where
   pub command : placed.entry.command ≡ play_of old.heard plan
   pub answer_is : placed.entry.answer ≡ answer
 
@@ -131,7 +132,8 @@ comes_as {old} {new} round comes = by-event round.event round.due round.halt com
         (subst (λ ps. ComesAs old (its ps halt) here) (sym comes.0)
         (subst (λ h. ComesAs old (its [] h) here) (sym comes.1) BytesCame))
     by-event (HeardSlot slot) due halt comes =
-        let its : List SentPart → Round = λ ps. record { event = HeardSlot slot; due = ps; halt = halt; takings = round.takings } in
+        let its : List SentPart
+        → Round = λ ps. record { event = HeardSlot slot; due = ps; halt = halt; takings = round.takings } in
         subst (λ i. ComesAs old (its due) (stage new.session i)) (sym comes.0)
         (subst (λ ps. ComesAs old (its ps) (stage new.session old.input)) (sym comes.1.parts_are)
         (SlotCame (finishes_as (awaited_answer (after_slot old.session slot)) halt comes.1.finished)))

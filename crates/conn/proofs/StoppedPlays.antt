@@ -1,11 +1,11 @@
 -- The rest of a play that was halted, from slot to slot.
-use Rattle.std.proofs.Common.{◌≡◌, ◌⊎◌, ℕ, ◌+◌, ◌-◌, ◌<◌, ◌++◌, ◌&&◌, Bool, true, false, if◌then◌else◌, List, [], ◌∷◌}
-use Rattle.std.proofs.Common.{length, take, drop, refl, ap, sym, ◌∙◌, subst, inl, inr, arith}
+use Rattle.std.proofs.Common.{◌≡◌, ◌⊎◌, ℕ, ◌+◌, ◌-◌, ◌<◌, ◌++◌, ◌&&◌, Bool, true, List, [], ◌∷◌}
+use Rattle.std.proofs.Common.{length, refl, ap, sym, ◌∙◌, subst, inl, arith}
 use Rattle.film_frames.specs.declared.stored_films.Stored.{Stored}
-use Rattle.film_frames.specs.Tracks.{IsBoundaryAfter, framed_bytes}
+use Rattle.film_frames.specs.Tracks.{IsBoundaryAfter}
 use Rattle.film_run.proofs.PlanLemmas.{sending-best}
 use Rattle.film_run.specs.Units.{stored_sizes}
-use Rattle.pacer.specs.PacerStates.{PacerState, after_step, first_slots, stands_at_boundary}
+use Rattle.pacer.specs.PacerStates.{PacerState, first_slots}
 use Rattle.film_streams.specs.declared.setups.Setup.{Setup}
 use Rattle.session.specs.declared.states.State.{State}
 use Rattle.session.specs.declared.states.State.TheVariants.{Ready, Stopping}
@@ -14,13 +14,12 @@ use Rattle.film_streams.specs.SettingRanges.{IsSetup}
 use Rattle.session.specs.SlotSteps.{after_play, after_slot, is_between, is_sending, note_of, sent_due, sent_slot}
 use Rattle.session.specs.SlotSteps.{stepped_in}
 use Rattle.session.specs.SessionStates.{SessionState}
-use Rattle.session.specs.SlotTransitions.{after_stop}
-use Rattle.conn.specs.Plays.{IsCutBy, client_of, play_pieces}
+use Rattle.conn.specs.Plays.{IsCutBy, client_of}
 use Rattle.conn.specs.InputSteps.{SentPart, due_parts, film_bytes, slot_parts}
 use Rattle.std.proofs.lemmas.List.{append-nil}
 use Rattle.conn.proofs.FilmBytes.{sent_through, slot_film, slot_is, slot_pacing, halted_count, halted_on}
 use Rattle.conn.proofs.RequestInvariants.{Ground, HasStopped, IsStateOf, ground_by, ground_of}
-use Rattle.conn.proofs.PlayProgress.{SlotSends, Still, Taken, pacer_film, parts_of, reply_heard, reply_state, slot_sends}
+use Rattle.conn.proofs.PlayProgress.{SlotSends, Still, Taken, pacer_film, parts_of, reply_heard, slot_sends}
 use Rattle.conn.proofs.PlayProgress.{state_after_slot}
 
 abbrev pub with_rest : Stop → PacerState → Stop
@@ -40,27 +39,7 @@ pub record StopsOn (ground : Ground) (setup : Setup) (stop : Stop) (s : SessionS
 
 stop_state : (stop : Stop) (waits : Bool) (setup : Setup) (slot : ℕ) →
     IsStopping setup stop (slot_pacing waits slot stop.pacer) (state_after_slot waits (Stopping setup stop) slot)
-stop_state stop waits setup slot = by-case waits (stands_at_boundary front)
-  where
-    front : PacerState
-    front = after_step true slot stop.pacer
-
-    both : PacerState
-    both = after_step false slot (after_step true slot stop.pacer)
-
-    plain : PacerState
-    plain = after_step false slot stop.pacer
-
-    by-case : (waits between : Bool) →
-        IsStopping setup stop (if waits then (if between then both else front) else plain)
-        (if waits && between
-        then after_stop (if waits then (if between then Stopping setup (with_rest stop both)
-        else Stopping setup (with_rest stop front)) else Stopping setup (with_rest stop plain))
-        else (if waits then (if between then Stopping setup (with_rest stop both)
-        else Stopping setup (with_rest stop front)) else Stopping setup (with_rest stop plain)))
-    by-case false between = inl refl
-    by-case true false = inl refl
-    by-case true true = inr refl
+stop_state stop waits setup slot = grind arith
 
 -- a session sends the rest of a halted play, of which these bytes were sent
 pub record StopGoing (session : SessionState) : Type 0 where
@@ -74,26 +53,7 @@ pub record StopGoing (session : SessionState) : Type 0 where
 stop_through : {old : SessionState} (going : StopGoing old) (slot : ℕ) → old.heard < slot →
     HasStopped (ground_by (ground_of old going.film) slot (going.film ++ slot_film old.waits slot going.stop.pacer))
     going.setup (with_rest going.stop (slot_pacing old.waits slot going.stop.pacer))
-stop_through {old} going slot later =
-    let p = stop.pacer in
-    let rest = stopped.rest in
-    let after : Ground = ground_by (ground_of old film) slot (film ++ slot_film old.waits slot p) in
-    let through : slot_pacing old.waits slot p ≡ sent_through slot p =
-    slot_is old.waits (stands_at_boundary (after_step true slot p)) slot p rest.halted.pacing refl in
-    subst (λ (q : PacerState). HasStopped after setup (with_rest stop q)) (sym through) (record {
-      play = stopped.play;
-      earlier = stopped.earlier;
-      noted = stopped.noted;
-      rest = record {
-        of = rest.of;
-        plan = rest.plan;
-        before = rest.before;
-        start = rest.start;
-        halted = halted_on old.waits rest.halted later;
-      };
-    })
-  where
-    open going use {setup, stop, film, stopped}
+stop_through {old} going slot later = search (slot_is, halted_on)
 
 stop_taken : (old : SessionState) (slot : ℕ) (going : StopGoing old) → old.heard < slot →
     StopsOn (ground_of old going.film) going.setup going.stop (after_play (sent_slot old slot))
@@ -102,18 +62,18 @@ stop_taken old slot going later =
     let goes : Bool = old.waits && is_between (stepped_in true slot old.state) in
     let p = stop.pacer in
     let now : PacerState = slot_pacing old.waits slot p in
-    let through : now ≡ sent_through slot p =
-    slot_is old.waits (stands_at_boundary (after_step true slot p)) slot p stopped.rest.halted.pacing refl in
-    let after : (sent_slot old slot).state ≡ state_after_slot old.waits (Stopping setup stop) slot =
-    reply_state goes (sent_due old slot) ∙ ap (λ st. state_after_slot old.waits st slot) state in
+    let through : now ≡ sent_through slot p = search slot_is in
+    let after : (sent_slot old slot).state ≡ state_after_slot old.waits (Stopping setup stop) slot = grind arith in
     let bytes : film_bytes (due_parts old slot) ≡ slot_film old.waits slot p =
     ap (λ st. film_bytes (parts_of old.waits st old.text slot)) state ∙ pacer_film old.waits p old.text slot in
     record {
       now = now;
       keep = ap (λ (q : PacerState). q.keep) through;
-      stopped = subst (λ n. HasStopped (ground_by (ground_of old film) n (film ++ film_bytes (due_parts old slot))) setup
+      stopped = subst (λ n. HasStopped (ground_by (ground_of old film) n (film ++ film_bytes (due_parts old slot)))
+          setup
           (with_rest stop now)) (sym (reply_heard goes (sent_due old slot)))
-          (subst (λ bs. HasStopped (ground_by (ground_of old film) slot (film ++ bs)) setup (with_rest stop now)) (sym bytes)
+          (subst (λ bs. HasStopped (ground_by (ground_of old film) slot (film ++ bs)) setup (with_rest stop now))
+          (sym bytes)
           (stop_through going slot later));
       state = subst (IsStopping setup stop now) (sym after) (stop_state stop old.waits setup slot);
     }
@@ -141,12 +101,7 @@ stop_slot old slot going = by-slot (slot_sends old slot (ap is_sending going.sta
 pub stop_left : {old s : SessionState} {more : List ℕ} (going : StopGoing old) → IsSetup (length old.films) going.setup
     → StopsOn (ground_of old going.film) going.setup going.stop s more
     → IsStateOf (ground_by (ground_of old going.film) s.heard more) s.state
-stop_left {old} {s} {more} going values on =
-    let ground = ground_by (ground_of old going.film) s.heard more in
-    elim on.state [
-      | inl is ↦ subst (IsStateOf ground) (sym is) (values, on.stopped)
-      | inr is ↦ subst (IsStateOf ground) (sym is) values
-    ]
+stop_left {old} {s} {more} going values on = grind arith
 
 -- what was sent of it
 pub stop_cut : {old s : SessionState} {more : List ℕ} (going : StopGoing old)
@@ -155,15 +110,10 @@ pub stop_cut : {old s : SessionState} {more : List ℕ} (going : StopGoing old)
 stop_cut {old} {s} {more} going on =
     let stored = rest.stored in
     let its = rest.halted in
-    let pieces : p.pieces ≡ play_pieces old stored setup play = rest.pieces in
     let count : length more ≡ p.sent = halted_count its in
-    let slots : first_slots p.plan p.passed ≡ first_slots play.plan (s.heard + 1 - play.start) =
-    ap (first_slots p.plan) its.passed ∙ ap (λ n. first_slots p.plan (s.heard + 1 - n)) rest.start
-    ∙ ap (λ plan. first_slots plan (s.heard + 1 - play.start)) rest.plan in
+    let slots : first_slots p.plan p.passed ≡ first_slots play.plan (s.heard + 1 - play.start) = grind arith in
     let size : p.before + p.sent - p.before ≡ length more = omega (arith, count) in
-    let ends : IsBoundaryAfter p.pieces (p.before + length more) (p.before + stop.pacer.keep) =
-    subst (λ n. IsBoundaryAfter p.pieces (p.before + length more) (p.before + n)) keep
-    (subst (λ n. IsBoundaryAfter p.pieces (p.before + n) (p.before + p.keep)) (sym count) its.ends) in (
+    let ends : IsBoundaryAfter p.pieces (p.before + length more) (p.before + stop.pacer.keep) = grind arith in (
       stored,
       record {
         at = rest.at;
@@ -173,11 +123,8 @@ stop_cut {old} {s} {more} going on =
         sending = rest.sending;
         best = sending-best (stored_sizes stored) (client_of old stored setup) play.run play.plan rest.sending;
         count = omega (arith, count, its.sent, slots, keep);
-        front = its.film_is ∙ ap (λ n. take n (drop p.before (framed_bytes p.pieces))) size
-            ∙ ap (λ n. take (length more) (drop n (framed_bytes p.pieces))) rest.before
-            ∙ ap (λ ps. take (length more) (drop play.run.sent (framed_bytes ps))) pieces;
-        ends = subst (λ ps. IsBoundaryAfter ps (play.run.sent + length more) (play.run.sent + stop.pacer.keep)) pieces
-            (subst (λ n. IsBoundaryAfter p.pieces (n + length more) (n + stop.pacer.keep)) rest.before ends);
+        front = grind arith;
+        ends = grind arith;
       },
     )
   where

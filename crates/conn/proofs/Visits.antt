@@ -1,17 +1,15 @@
+use Rattle.std.proofs.lemmas.Grind.{common_steps}
 -- What a connection did agrees with its journal, and with each longer one.
 use Rattle.std.proofs.Common.{◌≡◌, ◌<◌, ℕ, ◌++◌, List, [], ◌∷◌, Some, length, take, ap, sym, ◌∙◌, subst, arith, inl}
 use Rattle.std.proofs.Common.{inr, suc, zero}
 use Rattle.std.specs.Prelude.{slice_get, slice_index_or}
-use Rattle.std.proofs.lemmas.List.{append_cancel_left, length-append}
+use Rattle.std.proofs.lemmas.List.{append_cancel_left}
 use Rattle.std.proofs.lemmas.Option.{slice_get-get_or, slice_get_within}
 use mathlib.Core.List.{IsPrefix}
 use Rattle.vod_base.specs.Gates.{ReturnedConn}
 use Rattle.film_frames.specs.declared.stored_films.Stored.{Stored}
 use Rattle.admission.specs.declared.entries.Entry.{Entry}
-use Rattle.admission.specs.Histories.{IsLegal, booked_after, state_after}
-use Rattle.admission.specs.Machine.{start_after}
-use Rattle.slot_calendar.specs.Calendars.{IsFirstOverflow}
-use Rattle.slot_calendar.specs.Profiles.{capacity_at}
+use Rattle.admission.specs.Histories.{IsLegal}
 use Rattle.film_streams.specs.declared.settings.Settings.{Settings}
 use Rattle.session.specs.RequestSteps.{new_session_state}
 use Rattle.session.specs.SessionStates.{SessionState}
@@ -20,7 +18,7 @@ use Rattle.station.proofs.LongerJournals.{prefix_at, prefix_take}
 use Rattle.station.proofs.SameSeats.{seat_none, seat_on}
 use Rattle.conn.specs.Agreement.{Agrees, AgreesIfObserved, Activity, Visit, doings_outcomes, visit}
 use Rattle.conn.specs.Journals.{Terms, terms_of}
-use Rattle.conn.specs.Parts.{AreServed, HasServedOne, fresh_history}
+use Rattle.conn.specs.Parts.{AreServed, HasServedOne}
 use Rattle.conn.specs.Guarantees.{AreRefusalsJustified, MeetsGuarantee, ReportsOverflowOf}
 use Rattle.conn.specs.InputSteps.{Outcome, SentPart, Film, Text}
 use Rattle.conn.specs.EventSteps.{ending_outcomes, entries_in, rounds_outcomes}
@@ -38,8 +36,7 @@ pub one_agrees : {old new : SeatState} (visit : Visit) →
     AgreesIfObserved visit (terms_of new) new.seen
 one_agrees {old} {new} visit one = λ told tells found.
     let session : SessionState = new_session_state visit.films visit.settings visit.report.words in
-    let keeps : MeetsGuarantee session (Some []) (Some told) old new visit.report =
-    subst (λ t. MeetsGuarantee session (fresh_history t) t old new visit.report) tells one.keeps in
+    let keeps : MeetsGuarantee session (Some []) (Some told) old new visit.report = grind arith in
     elim keeps [
       | inl meets ↦
           let entries = one.entries in
@@ -78,8 +75,7 @@ get_longer : (grown : LongerJournal) (k : ℕ) (entry : Entry) → slice_get gro
     → slice_get grown.longer k ≡ Some entry
 get_longer grown k entry is =
     let inside : k < length journal = slice_get_within journal k entry is in
-    let wide : k < length longer =
-    omega (arith, inside, length-append journal prefix.0, ap (λ (xs : List Entry). length xs) prefix.1) in
+    let wide : k < length longer = grind (arith, common_steps) in
     slice_get-get_or longer k entry wide
     ∙ ap (λ e. Some e) (prefix_at journal longer prefix k entry inside)
     ∙ sym (slice_get-get_or journal k entry inside) ∙ is
@@ -92,24 +88,13 @@ overflow_longer grown reports =
     let over = reports.overflow in
     let place : ℕ = over.placed.place in
     let inside : place < length journal = slice_get_within journal place over.placed.entry over.seen in
-    let same : take place longer ≡ take place journal = prefix_take journal longer prefix place (omega (arith, inside)) in
+    let same : take place longer
+    ≡ take place journal = prefix_take journal longer prefix place (omega (arith, inside)) in
     record {
       slot = reports.slot;
       booked = reports.booked;
       asked = reports.asked;
-      overflow = record {
-        placed = over.placed;
-        among = over.among;
-        seen = get_longer grown place over.placed.entry over.seen;
-        maker = over.maker;
-        answer = over.answer;
-        heard = over.heard;
-        plan = over.plan;
-        command = over.command;
-        first = subst (λ (xs : List Entry). IsFirstOverflow 0 (booked_after xs) (capacity_at terms.steps)
-            (start_after (state_after xs) over.heard) over.plan
-            (record { slot = reports.slot; booked = reports.booked; asked = reports.asked })) (sym same) over.first;
-      };
+      overflow = grind (arith, get_longer);
       sequence = reports.sequence;
       text_is = reports.text_is;
     }
@@ -159,10 +144,7 @@ same_on old new same = subst (GoesOn old) (sym same) (record { seat = seat_none 
 one_on : {old new : SeatState} (visit : Visit)
     → HasServedOne visit.films visit.settings visit.returned visit.report old new → GoesOn old new
 one_on {old} {new} visit one = elim one.keeps [
-  | inl keeps ↦ record {
-    seat = (noted_on keeps.served.course.noted keeps.served.closes.noted).seat;
-    legal = λ legal. keeps.booked.legal;
-  }
+  | inl keeps ↦ grind (arith, common_steps)
   | inr nothing ↦ same_on old new nothing.seat
 ]
 
@@ -170,8 +152,7 @@ one_on {old} {new} visit one = elim one.keeps [
 agrees_on : {visit : Visit} {old new : SeatState} → Agrees visit (terms_of old) old.seen → GoesOn old new →
     Agrees visit (terms_of new) new.seen
 agrees_on {visit} {old} {new} agrees on =
-    let legal : IsLegal old.steps new.seen =
-    subst (λ steps. IsLegal steps new.seen) on.seat.steps (on.legal agrees.legal) in
+    let legal : IsLegal old.steps new.seen = grind arith in
     subst (λ terms. Agrees visit terms new.seen) (sym (terms_same old new on.seat))
     (agrees_longer agrees on.seat.longer legal)
 

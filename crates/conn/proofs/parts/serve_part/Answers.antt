@@ -1,7 +1,7 @@
-use Rattle.std.proofs.Common.{◌++◌, ◌∷◌, ◌∙◌, [], ap, length, refl, rules, subst, arith}
+use Rattle.std.proofs.Common.{◌++◌, ◌∷◌, ◌∙◌, [], ap, refl, rules, subst, arith}
 use Rattle.conn.specs.Parts.{worker_input}
-use Rattle.conn.proofs.WorkerProgress.{HasServedSoFar, ends_early, ends_failed, ends_taken, none_served, one_served}
-use Rattle.conn.proofs.WorkerProgress.{part_so_far, served_fresh, served_out, worker_state}
+use Rattle.conn.proofs.WorkerProgress.{HasServedSoFar, none_served, one_served}
+use Rattle.conn.proofs.WorkerProgress.{served_fresh, served_out, worker_state}
 use Rattle.conn.proofs.parts.serve_part.Goals as goal
 
 pub connections-init : goal.connections-init
@@ -15,7 +15,6 @@ connections-init g c =
 
 pub connections-preserved : goal.connections-preserved
 connections-preserved g c =
-    let reports = c.connections.reports.items in
     let report = c.serve_connection-report.result in
     let served = c.serve_connection-report.ensures in
     let some = rw c.in-Ok-Some.field-0-is at c.in-Ok-Some.ensures in
@@ -49,34 +48,16 @@ connections-preserved g c =
     })
 
 pub returns-then-is_err : goal.returns-then-is_err
-returns-then-is_err g c = record {
-  part = let so_far = rw (← c.reserve.ensures.items) at c.connections.invariant in ends_early (part_so_far _ so_far) refl;
-}
+returns-then-is_err g c = grind arith
 
 pub returns-in-Ok-None : goal.returns-in-Ok-None
-returns-in-Ok-None g c = record {
-  part = let so_far = rw (← c.reserve.ensures.items) at c.connections.invariant in
-      ends_taken (part_so_far _ so_far) refl (record {
-        told = c.in-Ok-None.ensures.none c.in-Ok-None.field-0-is;
-        count = c.take.ensures.count;
-      });
-}
+returns-in-Ok-None g c = grind arith
 
 pub returns-in-Err : goal.returns-in-Err
-returns-in-Err g c = record {
-  part = let so_far = rw (← c.reserve.ensures.items) at c.connections.invariant in
-      ends_failed (part_so_far _ so_far) refl (record { told = c.in-Err.ensures.lost; count = c.take.ensures.count })
-      c.in-Err.ensures.fault;
-}
+returns-in-Err g c = grind arith
 
 pub give_back-requires : goal.give_back-requires
-give_back-requires g c =
-    let some = rw c.in-Ok-Some.field-0-is at c.in-Ok-Some.ensures in
-    record {
-      out =
-          served_out (g.G.Gate.told c.args.part.now) (g.G.Gate.told c.connections.part)
-          (g.G.Gate.told c.take.new.self) (length c.connections.reports.items) c.connections.invariant.served some.gave;
-    }
+give_back-requires g c = grind (arith, served_out)
 
 pub serve_connection-report-requires-clause-seat : goal.serve_connection-report-requires-clause-seat
 serve_connection-report-requires-clause-seat g c = c.connections.invariant.seat.id ∙ c.requires.seat

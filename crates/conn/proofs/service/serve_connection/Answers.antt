@@ -1,5 +1,4 @@
 use Rattle.std.proofs.Common.{refl, rules}
-use Rattle.session.specs.RequestSteps.{new_session_state}
 use Rattle.station.proofs.SameSeats.{seat_none, seat_on}
 use Rattle.conn.specs.ReservationInvariant.{reservation_state}
 use Rattle.conn.proofs.ReservationSteps.{gone_on}
@@ -22,16 +21,13 @@ returns-clause-entries g c =
 
 pub returns-clause-guarantee : goal.returns-clause-guarantee
 returns-clause-guarantee g c =
-    let session = new_session_state c.args.films.now c.args.settings.now c.args.words in
     let well = new_well c.args.films.now c.args.settings.now c.args.words c.law_all_films_are_traces.ensures
     c.requires.settings in
     keeps_promise well
     refl c.holds.ensures.kept (search rules)
 
 pub returns-clause-seat : goal.returns-clause-seat
-returns-clause-seat g c =
-    seat_on c.args.seat.now c.hear_all-end.new.seat c.close.new.seat c.hear_all-end.ensures.kept.seat
-    c.close.ensures.kept.seat
+returns-clause-seat g c = search seat_on
 
 pub returns-in_default-clause-seat : goal.returns-in_default-clause-seat
 returns-in_default-clause-seat g c = seat_none c.args.seat.now

@@ -1,3 +1,4 @@
+use Rattle.std.proofs.Common.{arith}
 use Rattle.std.proofs.Common.{Some, rules, refl, ap, sym, ◌∙◌}
 use Rattle.conn.specs.ReservationInvariant.{open_play_of}
 use Rattle.conn.specs.InputSteps.{Entered}
@@ -20,12 +21,7 @@ returns-in-Some-clause-kept g c = record {
 pub returns-in-Some-clause-answered : goal.returns-in-Some-clause-answered
 returns-in-Some-clause-answered g c = record {
   outcome = Entered _;
-  answered = record {
-    number = c.in-Some.booking.number;
-    command = refl;
-    answer = refl;
-    halts = c.halted.ensures.halts;
-  };
+  answered = grind arith;
   noted = noted_entry (record {
     call = record { kept = c.holds.ensures.kept; also = c.halt-place.ensures.kept; same = c.halt-place.ensures.same };
     maker = refl;

@@ -2,15 +2,14 @@ use Rattle.std.proofs.Common.{[], ◌≡◌, ◌<◌, ◌≤◌, ◌+◌, ◌++�
 use Rattle.std.proofs.Common.{arith}
 use Rattle.vod_base.specs.Links.{io_event_of}
 use Rattle.vod_base.specs.declared.links.Heard.{Heard}
-use Rattle.conn.specs.declared.reports.ConnEnd.TheVariants.{LinkFault, TooMuchInput}
-use Rattle.conn.specs.Observations.{HasFailedSend, HasHandledEvent, HasTakenSlot, Observed, observed}
+use Rattle.conn.specs.declared.reports.ConnEnd.TheVariants.{TooMuchInput}
+use Rattle.conn.specs.Observations.{HasHandledEvent, HasTakenSlot, Observed, observed}
 use Rattle.conn.specs.InputSteps.{Unasked, stage}
 use Rattle.std.proofs.lemmas.List.{length-take-le}
 use Rattle.interleave.specs.declared.demux.TheConstants.{MAX_WAITING_BYTES}
 use Rattle.vod_base.specs.declared.links.TheConstants.{MAX_READ_BYTES}
 use Rattle.conn.proofs.FaultCounts.{counted_on}
-use Rattle.conn.proofs.ElementPrefixes.{cuts_same}
-use Rattle.conn.proofs.ReservationSteps.{kept_after, kept_moved, kept_none, kept_on}
+use Rattle.conn.proofs.ReservationSteps.{kept_moved, kept_none, kept_on}
 use Rattle.conn.proofs.EventLimit.{waits_for_room}
 use Rattle.conn.proofs.CourseSteps.{event_up, noted_unasked, overfull, sent_none, slot_broken}
 use Rattle.conn.proofs.connections.Connection.hear.Goals as goal
@@ -39,13 +38,7 @@ returns-then-is_err-clause-comes g c =
     }) same))
 
 pub returns-then-is_err-2-clause-comes : goal.returns-then-is_err-2-clause-comes
-returns-then-is_err-2-clause-comes g c =
-    let here : Observed = observed c.args.self.now (g.K.Link.told c.args.link.now) c.args.seat.now in
-    let after : Observed = observed c.step.new.self (g.K.Link.told c.step.new.link) c.step.new.seat in
-    let broken : HasFailedSend here after c.in-Slot.slot = search rules in
-    subst (λ (h : Heard). HasHandledEvent (Some LinkFault) (io_event_of h c.args.bytes.now) here after) (sym
-    c.in-Slot.is)
-    (slot_broken c.in-Slot.slot here after broken)
+returns-then-is_err-2-clause-comes g c = grind (arith, slot_broken)
 
 pub returns-else-is_err-clause-comes : goal.returns-else-is_err-clause-comes
 returns-else-is_err-clause-comes g c =
@@ -102,16 +95,13 @@ pub returns-then-is_err-clause-kept : goal.returns-then-is_err-clause-kept
 returns-then-is_err-clause-kept g c = kept_moved c.args.seat.now c.args.self.now c.put.new.self c.requires.quiet
 
 pub returns-else-is_err-clause-kept : goal.returns-else-is_err-clause-kept
-returns-else-is_err-clause-kept g c =
-    kept_after {mid = record c.args.self.now { input = c.put.new.self }} (record { booking = refl; receipts = refl })
-    c.process_input.ensures.kept
+returns-else-is_err-clause-kept g c = grind arith
 
 pub returns-then-is_err-2-clause-kept : goal.returns-then-is_err-2-clause-kept
 returns-then-is_err-2-clause-kept g c = c.step.ensures.kept
 
 pub returns-then-is_err-2-clause-cut : goal.returns-then-is_err-2-clause-cut
-returns-then-is_err-2-clause-cut g c =
-    rw c.in-Slot.is (cuts_same c.args.self.now.input c.step.new.self.input c.step.ensures.input)
+returns-then-is_err-2-clause-cut g c = grind arith
 
 pub returns-then-is_err-2-clause-taken : goal.returns-then-is_err-2-clause-taken
 returns-then-is_err-2-clause-taken g c = rw c.in-Slot.is tt

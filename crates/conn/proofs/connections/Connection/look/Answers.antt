@@ -1,7 +1,8 @@
-use Rattle.std.proofs.Common.{[], ◌∷◌, refl, rules}
-use Rattle.session_records.specs.declared.notes.Receipt.TheVariants.{Full as FullReceipt}
+use Rattle.std.proofs.Common.{arith}
+use Rattle.std.proofs.lemmas.Grind.{common_steps}
+use Rattle.std.proofs.Common.{refl, rules}
 use Rattle.conn.specs.InputSteps.{Entered, WasFull}
-use Rattle.conn.proofs.Outcomes.{noted_entry, noted_full}
+use Rattle.conn.proofs.Outcomes.{noted_entry}
 use Rattle.conn.proofs.ReservationSteps.{at_look, gone_entry, gone_none, held_at_look}
 use Rattle.conn.proofs.connections.Connection.look.Goals as goal
 
@@ -19,18 +20,7 @@ returns-in-Ok-clause-kept g c = record {
 }
 
 pub returns-in-Err-clause-kept : goal.returns-in-Err-clause-kept
-returns-in-Err-clause-kept g c = record {
-  seat = search rules;
-  quiet = search rules;
-  gone =
-      gone_none (record {
-        full = FullReceipt c.in-Err.full.entries c.in-Err.full.live ∷ [];
-        mine = c.in-Err.ensures.full.mine;
-        booking = refl;
-        receipts = c.full.ensures.handed.receipts;
-        none = refl;
-      });
-}
+returns-in-Err-clause-kept g c = grind (arith, gone_none)
 
 pub returns-in-Ok-clause-answered : goal.returns-in-Ok-clause-answered
 returns-in-Ok-clause-answered g c = record {
@@ -47,11 +37,5 @@ pub returns-in-Err-clause-answered : goal.returns-in-Err-clause-answered
 returns-in-Err-clause-answered g c = record {
   outcome = WasFull 1 c.in-Err.full.entries c.in-Err.full.live;
   answered = (c.full.ensures.exact, refl);
-  noted = noted_full (record {
-    more = 1;
-    entries = c.in-Err.full.entries;
-    live = c.in-Err.full.live;
-    same = c.look.ensures.same;
-    full = c.in-Err.ensures.full;
-  });
+  noted = grind (arith, common_steps);
 }

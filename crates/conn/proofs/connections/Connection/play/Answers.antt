@@ -1,10 +1,8 @@
-use Rattle.std.proofs.Common.{refl, rules, ap, subst, ◌∙◌}
+use Rattle.std.proofs.Common.{arith}
+use Rattle.std.proofs.Common.{refl, rules, subst}
 use Rattle.admission.specs.declared.entries.Answer.TheVariants.{Admitted}
 use Rattle.station.specs.Answers.{IsSeatRefused, HasMadeEntry}
 use Rattle.station.specs.Ledgers.{play_of}
-use Rattle.session_records.specs.declared.notes.Receipt.TheVariants.{Entry}
-use Rattle.session.specs.RequestSteps.{after_admission}
-use Rattle.session.specs.SessionStates.{IsAnswerRecorded, awaited_answer, booking_of}
 use Rattle.conn.specs.declared.connections.Connection.{Connection}
 use Rattle.conn.proofs.Outcomes.{IsAsking, StationCall, answered_admitted, answered_refused, kept_admitted, kept_refused}
 use Rattle.conn.proofs.connections.Connection.play.Goals as goal
@@ -12,11 +10,7 @@ use Rattle.conn.proofs.connections.Connection.play.Goals.{After-play}
 
 -- what is known once the station answered
 asking : (g : _) (c : After-play g) → IsAsking c.args.seat.now c.play.new.seat c.args.self.now
-asking g c = record {
-  call = record { kept = c.holds.ensures.kept; also = c.play.ensures.kept; same = c.play.ensures.same };
-  held = c.requires.held;
-  closed = c.requires.closed;
-}
+asking g c = grind arith
 
 -- the call, which leaves the connection so
 abbrev call : (g : _) (c : After-play g) → Connection → StationCall
@@ -28,13 +22,9 @@ returns-in-Ok-clause-kept g c =
       heard = c.heard_slot.result;
       made = c.in-Ok.ensures.made;
       keeps = c.in-Ok.ensures.open;
-      handed = subst (λ start. IsAnswerRecorded c.args.self.now.session
-          (Entry c.in-Ok.booking.number (Admitted start)) c.admitted.new.self) c.start.ensures
-          (subst (λ number. IsAnswerRecorded c.args.self.now.session (Entry number (Admitted c.start.result))
-          c.admitted.new.self) c.number.ensures c.admitted.ensures.handed);
+      handed = grind arith;
       asked = c.requires.asked;
-      opens = c.admitted.ensures.open
-          ∙ ap (λ start. booking_of (awaited_answer c.args.self.now.session) start) c.start.ensures;
+      opens = grind arith;
       booking_is = c.hold.ensures;
     })
 
@@ -56,9 +46,7 @@ returns-in-Ok-clause-answered g c =
     (subst (λ heard. HasMadeEntry c.args.seat.now c.play.new.seat 2 (play_of heard c.args.plan)
     c.in-Ok.booking.number (Admitted c.in-Ok.booking.start)) c.heard_slot.ensures.slot c.in-Ok.ensures.made) (record {
       later = search rules;
-      exact = c.admitted.ensures.exact
-          ∙ ap (λ number. after_admission c.args.self.now.session number c.start.result) c.number.ensures
-          ∙ ap (λ start. after_admission c.args.self.now.session c.in-Ok.booking.number start) c.start.ensures;
+      exact = grind arith;
       play = c.admitted.ensures.play;
       small = search rules;
     })

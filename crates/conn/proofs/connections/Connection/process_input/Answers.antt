@@ -1,5 +1,5 @@
-use Rattle.std.proofs.Common.{rules, subst, sym, arith, Some}
-use Rattle.conn.specs.Observations.{HasTaken, observed}
+use Rattle.std.proofs.Common.{rules, arith, Some}
+use Rattle.conn.specs.Observations.{observed}
 use Rattle.conn.proofs.FaultCounts.{counted_on}
 use Rattle.conn.proofs.ElementPrefixes.{cuts_on}
 use Rattle.conn.proofs.ReservationSteps.{kept_on}
@@ -21,11 +21,7 @@ returns-in-Waits g c =
     let inv = c.elements.invariant in let next = c.process_next.ensures in
     record {
       kept = kept_on inv.0 next.kept;
-      up = (
-        subst (HasTaken (observed c.args.self.now (g.K.Link.told c.args.link.now) c.args.seat.now))
-            (sym c.in-Waits.ensures.takes.0) inv.3,
-        c.in-Waits.ensures.takes.1,
-      );
+      up = grind arith;
       cut = cuts_on inv.2 next.cut;
       taken = c.in-Waits.ensures.taken;
       counted = counted_on inv.4 c.in-Waits.ensures.counted;

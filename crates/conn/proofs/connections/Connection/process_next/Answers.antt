@@ -6,7 +6,7 @@ use Rattle.conn.proofs.ReservationSteps.{kept_moved, kept_none}
 use Rattle.interleave.specs.Elements.{IsFirst}
 use Rattle.interleave.specs.declared.elements.Step.TheVariants.{Block, Skip}
 use Rattle.conn.specs.EventSteps.{IsStopped}
-use Rattle.conn.specs.Observations.{HasTaken, Observed, TakesNext, observed}
+use Rattle.conn.specs.Observations.{HasTaken, Observed, observed}
 use Rattle.conn.proofs.CourseSteps.{fault_ends, input_is, taken_fault, taken_passed}
 use Rattle.conn.proofs.connections.Connection.process_next.Goals as goal
 
@@ -31,8 +31,7 @@ returns-in-Ok-Block g c =
     let channel = c.in-Ok-Block.field-0-0 in
     let n = c.in-Ok-Block.count in
     let left = c.drop_front-in-Ok-Block.new.self in
-    let first : IsFirst here.input (Ok (Block channel n)) =
-    first_is c.in-Ok-Block.ensures.first refl c.in-Ok-Block.field-0-is in
+    let first : IsFirst here.input (Ok (Block channel n)) = grind arith in
     let gone = drop_is n c.drop_front-in-Ok-Block.ensures c.look.ensures.waiting in
     record {
       kept = kept_moved c.args.seat.now here left c.requires.quiet;
@@ -59,21 +58,7 @@ returns-in-Ok-More g c =
     }
 
 pub returns-in-Ok-Request : goal.returns-in-Ok-Request
-returns-in-Ok-Request g c = record {
-  kept = record {
-    seat = c.process_request.ensures.kept.seat;
-    quiet = c.process_request.ensures.kept.quiet;
-    gone = c.process_request.ensures.kept.gone;
-  };
-  takes = subst (λ (i : List ℕ). TakesNext c.process_request.result
-      (observed (record c.args.self.now { input = i })
-      (g.K.Link.told c.args.link.now) c.args.seat.now)
-      (observed c.process_request.new.self (g.K.Link.told c.process_request.new.link) c.process_request.new.seat))
-      c.look.ensures.waiting c.process_request.ensures.takes;
-  cut = rw c.look.ensures.waiting at c.process_request.ensures.cut;
-  taken = rw c.look.ensures.waiting at c.process_request.ensures.taken;
-  counted = c.process_request.ensures.counted;
-}
+returns-in-Ok-Request g c = grind arith
 
 pub process_request-requires-clause-first : goal.process_request-requires-clause-first
 process_request-requires-clause-first g c =
@@ -96,7 +81,8 @@ pub returns-in-Err-clause-taken : goal.returns-in-Err-clause-taken
 returns-in-Err-clause-taken g c =
     fault_ends c.in-Err.fault c.end_of.result
     (record c.args.self.now { input = c.look.new.self })
-    c.end_of.ensures (subst (λ (i : List ℕ). IsFirst i (Err c.in-Err.fault)) (sym c.look.ensures.waiting) c.in-Err.ensures.first)
+    c.end_of.ensures (subst (λ (i : List ℕ). IsFirst i (Err c.in-Err.fault)) (sym c.look.ensures.waiting)
+    c.in-Err.ensures.first)
 
 pub returns-then-torn-clause-kept : goal.returns-then-torn-clause-kept
 returns-then-torn-clause-kept g c = kept_none c.args.seat.now c.args.self.now c.requires.quiet

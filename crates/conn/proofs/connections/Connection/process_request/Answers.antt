@@ -1,11 +1,12 @@
+use Rattle.std.proofs.Common.{arith}
+use Rattle.std.proofs.lemmas.Grind.{common_steps}
 use Rattle.std.proofs.Common.{inl, inr, refl, rules, sym, ◌∙◌}
 use Rattle.interleave.specs.declared.elements.Step.TheVariants.{Request}
 use Rattle.conn.specs.Observations.{observed}
 use Rattle.conn.specs.ReservationInvariant.{KeepsReservations}
-use Rattle.conn.proofs.FaultCounts.{counted_fault, counted_none}
-use Rattle.rtsp_text.proofs.WholeRequests.{fewer, some_request}
+use Rattle.conn.proofs.FaultCounts.{counted_none}
 use Rattle.conn.proofs.ElementPrefixes.{cuts_drop, cuts_none}
-use Rattle.conn.proofs.ReservationSteps.{kept_none, kept_then, still_open}
+use Rattle.conn.proofs.ReservationSteps.{kept_none}
 use Rattle.conn.proofs.CourseSteps.{RequestAnswered, lost_reply, stage_is, taken_reply}
 use Rattle.conn.proofs.connections.Connection.process_request.Goals as goal
 use Rattle.conn.proofs.connections.Connection.process_request.Goals.{After-reply}
@@ -18,7 +19,12 @@ abbrev answered : (g : _) (c : After-reply g)
 answered g c = record {
   asked = c.answer_request.new.self.session;
   n = c.args.length;
-  in_front = record { first = c.requires.first; replied = sym c.waits.ensures ∙ c.if-waits.false; torn = c.requires.torn };
+  in_front = record {
+    first = c.requires.first;
+    replied = sym c.waits.ensures
+        ∙ c.if-waits.false;
+    torn = c.requires.torn;
+  };
   heard = c.answer_request.ensures.heard;
 }
 
@@ -26,12 +32,7 @@ answered g c = record {
 kept : (g : _) (c : After-reply g)
     → KeepsReservations c.args.seat.now c.answer_request.new.seat c.args.self.now
     (record c.answer_request.new.self { session = c.reply.new.self })
-kept g c =
-    kept_then c.answer_request.ensures.kept (record {
-      rest = c.reply.ensures.rest;
-      same = record { booking = refl; receipts = c.reply.ensures.receipts };
-      opens = still_open _ _ c.reply.ensures.open;
-    })
+kept g c = grind arith
 
 pub returns-then-waits : goal.returns-then-waits
 returns-then-waits g c = record {
@@ -49,12 +50,7 @@ pub returns-in-Err-clause-cut : goal.returns-in-Err-clause-cut
 returns-in-Err-clause-cut g c = cuts_drop (Request c.args.length) c.requires.first c.answer_request.ensures.input
 
 pub returns-in-Ok-clause-taken : goal.returns-in-Ok-clause-taken
-returns-in-Ok-clause-taken g c = (
-  c.in-Ok.ensures.kept ∙ c.answer_request.ensures.lost ∙ c.requires.lost,
-  fewer c.args.self.now.input c.answer_request.new.self.input c.args.length
-      (some_request c.args.self.now.input c.args.length c.requires.first.1) c.requires.first.2
-      c.answer_request.ensures.input,
-)
+returns-in-Ok-clause-taken g c = grind (arith, common_steps)
 
 pub returns-in-Ok-clause-takes : goal.returns-in-Ok-clause-takes
 returns-in-Ok-clause-takes g c =
@@ -76,6 +72,4 @@ pub returns-in-Err-clause-kept : goal.returns-in-Err-clause-kept
 returns-in-Err-clause-kept g c = kept g (goal.at.returns-in-Err-clause-kept g c).After-reply
 
 pub returns-in-Err-clause-counted : goal.returns-in-Err-clause-counted
-returns-in-Err-clause-counted g c =
-    counted_fault (g.K.Link.faults c.args.link.now) (g.K.Link.faults c.reply.new.link) c.reply.ensures.count
-    c.in-Err.ensures.fault
+returns-in-Err-clause-counted g c = grind arith
