@@ -1,13 +1,13 @@
 -- A message has one answer, if memory is found for it.
-use Rattle.std.proofs.Common.{◌≡◌, ℕ, string_bytes, List, [], Option, Some, None, Result, Ok, Err, codes, refl, sym, ap}
+use Rattle.std.proofs.Common.{◌≡◌, ℕ, string_bytes, List, [], Option, Some, None, Result, Ok, Err, codes, sym, ap}
 use Rattle.std.proofs.Common.{subst, ◌∙◌, inl, inr, arith}
 use Rattle.session.proofs.SharedTerms.{AsksHalt, AsksOfferOr, AsksPlayOr, Describes, fault_refusal, first_sequence}
-use Rattle.session.proofs.SharedTerms.{Gets, GetsOffer, HasWait, header_value, Hears, IsJudged, IsPlanned, IsReadAs}
-use Rattle.session.proofs.SharedTerms.{IsRefused, IsReplied, IsSetUp, IsSetupRead, IsTopic, length_ms, Looks, Method}
-use Rattle.session.proofs.SharedTerms.{method_of, Names, next_boundary, no_fault, Offers, option_of, Pauses, plain_text}
-use Rattle.session.proofs.SharedTerms.{play_call, play_front, playback_of, Plays, prepared_of, public_text, Refusal}
-use Rattle.session.proofs.SharedTerms.{refusal_text, Request, Run, session_text, SessionState, SetsUp, Setup, Stored}
-use Rattle.session.proofs.SharedTerms.{stored_sizes, Takes, TearsDown, Topic, with_reply}
+use Rattle.session.proofs.SharedTerms.{Gets, GetsOffer, header_value, Hears, IsJudged, IsPlanned, IsReadAs}
+use Rattle.session.proofs.SharedTerms.{IsRefused, IsReplied, IsSetUp, length_ms, Looks, Method}
+use Rattle.session.proofs.SharedTerms.{method_of, next_boundary, no_fault, Pauses}
+use Rattle.session.proofs.SharedTerms.{play_call, play_front, playback_of, Plays, prepared_of, Refusal}
+use Rattle.session.proofs.SharedTerms.{Request, Run, SessionState, SetsUp, Setup, Stored}
+use Rattle.session.proofs.SharedTerms.{stored_sizes, Takes, TearsDown, Topic}
 use Rattle.session.specs.declared.commands.Ask.{Ask}
 use Rattle.session.specs.declared.plans.Planned.{Planned}
 use Rattle.session.specs.declared.refusals.Task.{Task}
@@ -16,17 +16,14 @@ use Rattle.session.specs.declared.states.Play.{Play as Played}
 use Rattle.session.specs.declared.states.State.{State}
 use Rattle.film_run.proofs.RemainingRunLemmas.{left-one}
 use Rattle.film_run.specs.Pauses.{IsRemainingRun}
-use Rattle.early_start.specs.declared.Tried.{Tried}
 use Rattle.pacer.specs.PacerStates.{slots_through}
 use Rattle.rtsp_text.proofs.MessageUniqueness.{fault_once}
-use Rattle.session.specs.declared.commands.Ask.TheVariants.{Halt as AskHalt, Offer as AskOffer}
 use Rattle.rtsp_methods.specs.declared.methods.Method.TheVariants.{Options, Describe, Setup as SetupMethod}
 use Rattle.rtsp_methods.specs.declared.methods.Method.TheVariants.{Play as PlayMethod, Pause, Teardown, GetParameter}
-use Rattle.rtsp_methods.specs.declared.topics.Topic.TheVariants.{Nothing as NoTopic, Booked, Offer as OfferTopic}
-use Rattle.rtsp_methods.specs.declared.topics.Topic.TheVariants.{Unknown}
-use Rattle.rtsp_methods.specs.declared.refusals.Refusal.TheVariants.{Session, State as NotNow, Parameter, Memory}
-use Rattle.session.specs.declared.states.Awaited.TheVariants.{Play, Halt}
-use Rattle.session.specs.declared.states.AfterHalt.TheVariants.{Paused, Torn}
+use Rattle.rtsp_methods.specs.declared.topics.Topic.TheVariants.{Booked, Offer as OfferTopic}
+use Rattle.rtsp_methods.specs.declared.refusals.Refusal.TheVariants.{Memory}
+use Rattle.session.specs.declared.states.Awaited.TheVariants.{Play}
+use Rattle.session.specs.declared.states.AfterHalt.TheVariants.{Paused}
 use Rattle.session.specs.declared.states.State.TheVariants.{Init, Ready, Playing}
 use Rattle.session.specs.Laws.{IsOneAnswer}
 use Rattle.session.specs.Methods.{OffersReady, PausesPlay}
@@ -34,20 +31,13 @@ use Rattle.rtsp_replies.specs.Replies.{describe_text}
 use Rattle.session.specs.SessionStates.{AreFilms}
 use Rattle.session.proofs.InitialStateLemmas.{HeardMessage, TwoHearings}
 use Rattle.session_laws.proofs.RequestReadings.{Does, as_read, does_task, passes_of, refused_in, taken_up}
-use Rattle.session.proofs.RequestUniqueness.{AreSameNames, first_sequence_is, names_once, read_once, topic_once}
+use Rattle.session.proofs.RequestUniqueness.{first_sequence_is, names_once, read_once, topic_once}
 use Rattle.session.proofs.RequestUniqueness.{wait_once}
 use Rattle.session_laws.proofs.PlanUniqueness.{PlanAsked, film_at_once, planned_once}
 
 -- the slots that were stepped
 through_once : (one other : Option ℕ) → slots_through other ≡ slots_through one → other ≡ one
-through_once None None same = refl
-through_once None (Some n) same = absurd (omega (arith, same))
-through_once (Some n) None same = absurd (omega (arith, same))
-through_once (Some n) (Some m) same = ap (λ k. Some k) (let is : m ≡ n = omega (arith, same) in is)
-
-found_once : (one other : Offers) → other.wait ≡ one.wait → other.start ≡ one.start → other.tried ≡ one.tried
-    → other ≡ one
-found_once one other wait start tried = λ i. record { wait = wait i; start = start i; tried = tried i }
+through_once one other given = grind arith
 
 abbrev Agree : TwoHearings → Type 0
 Agree w = IsOneAnswer w.old w.message w.ask w.one w.again w.other
@@ -89,19 +79,11 @@ module _ (w : TwoHearings) where
 
   halts_once : (c : HaltCall) → AsksHalt old c.sequence c.setup c.play c.next ask one
       → AsksHalt old c.sequence c.setup c.play c.next again other → Agree w
-  halts_once c is its =
-      let keep = its.keep_is ∙ sym is.keep_is in
-      same (its.command ∙ ap (λ n. AskHalt n) keep ∙ sym is.command)
-      (its.state ∙ ap (λ (n : ℕ). record old {
-        state = Playing c.setup (record c.play { pacer = record c.play.pacer { keep = n } });
-        awaited = Halt n c.next;
-        text = session_text c.sequence old.id;
-      }) keep ∙ sym is.state)
+  halts_once c is its = grind arith
 
   tears_once : (state : State) (sequence : ℕ) → TearsDown state old sequence ask one
       → TearsDown state old sequence again other → Agree w
-  tears_once (Playing setup play) sequence is its =
-      halts_once (record { sequence = sequence; setup = setup; play = play; next = Torn }) is its
+  tears_once (Playing setup play) sequence is its = grind arith
   tears_once _ sequence is its = both_do is its
 
   pauses_play_once : (sequence : ℕ) (setup : Setup) (play : Played)
@@ -155,17 +137,12 @@ module _ (r : TwoRequests) where
   play_or_once authority setup (Err refusal) is its = both_do w is its
 
   looks_once : Looks old request.sequence ask one → Looks old request.sequence again other → Agree w
-  looks_once (inl is) (inl its) = both_do w (is.command, is.state) (its.command, its.state)
-  looks_once (inl is) (inr its) = second_wants its.refused
-  looks_once (inr is) its = first_wants is.refused
+  looks_once given given' = grind arith
 
   offer_or_once : (wait : ℕ) (planned : Result Planned Refusal)
       → AsksOfferOr old request.sequence wait planned ask one
       → AsksOfferOr old request.sequence wait planned again other → Agree w
-  offer_or_once wait (Ok planned) (inl is) (inl its) =
-      let offers = found_once is.offers its.offers (its.wait_is ∙ sym is.wait_is) (its.start_is ∙ sym is.start_is)
-      (its.tried_is ∙ sym is.tried_is) in
-      same w (its.command ∙ ap (λ o. AskOffer planned.plan o) offers ∙ sym is.command) (its.state ∙ sym is.state)
+  offer_or_once wait (Ok planned) (inl is) (inl its) = grind arith
   offer_or_once wait (Ok planned) (inl is) (inr its) = second_wants its
   offer_or_once wait (Ok planned) (inr is) its = first_wants is
   offer_or_once wait (Err refusal) is its = both_do w is its

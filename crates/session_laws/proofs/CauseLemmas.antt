@@ -1,29 +1,24 @@
 -- A refusal that all methods share comes for its cause alone.
 use Rattle.std.specs.Prelude.{⊤}
-use Rattle.std.proofs.Common.{◌≡◌, ◌≢◌, ℕ, ◌<◌, ◌⊎◌, true, List, [], codes, Option, Some, None, is_some, Err, refl, sym}
-use Rattle.std.proofs.Common.{ap, subst, ◌∙◌, inl, inr, arith, Bool, false, ◌==◌}
-use Rattle.wire_curve.specs.declared.film.CurveRefused.TheVariants.{Fault, NoMemory as CurveMemory}
-use Rattle.wire_curve.specs.declared.film.CurveFault.TheVariants.{BufferTooSmall}
+use Rattle.std.proofs.Common.{◌≡◌, ◌≢◌, ℕ, ◌<◌, true, List, [], codes, Option, Some, None, is_some, Err, refl, sym}
+use Rattle.std.proofs.Common.{subst, inl, inr, arith, Bool, false, ◌==◌}
 use Rattle.session.specs.declared.commands.Ask.TheVariants.{Reply}
-use Rattle.rtsp_methods.specs.declared.methods.Method.TheVariants.{Options, Describe}
 use Rattle.rtsp_methods.specs.declared.refusals.Refusal.TheVariants.{Method as Unknown, Option as Required, Session}
 use Rattle.rtsp_methods.specs.declared.refusals.Refusal.TheVariants.{Film, State as NotNow}
 use Rattle.session.specs.declared.states.State.TheVariants.{Init}
-use Rattle.session_laws.specs.MethodLaws.{NamesNoOwnFilm, NamesNoSession, NamesSession, setup_in}
+use Rattle.session_laws.specs.MethodLaws.{NamesNoOwnFilm, NamesNoSession, setup_in}
 use Rattle.session_laws.specs.RefusalLaws.{IsKnownMethod, RequiresSomeOption}
 use Rattle.session.specs.RefusalOrder.{FitsFilm}
-use Rattle.session_laws.proofs.MethodLemmas.{exists_in, fits_session}
 use Rattle.session.proofs.ReplyCodeLemmas.{ok_text_code, one_code, own_code, refusal_code}
-use Rattle.session.proofs.RequestUniqueness.{NoChannels, NoMeaning, unread}
 use Rattle.session_laws.proofs.RequestReadings.{same_parts}
 use Rattle.session.proofs.InitialStateLemmas.{HeardMessage, heard_by}
 use Rattle.session.proofs.RequestCaseAnalysis.{Answer, Replies, SetsUp, EndsSession, OwnReply, ToFault, asked_by}
 use Rattle.session.proofs.RequestCaseAnalysis.{by_answer, made_by, ToRefused, ToDeclined, OwnCause, NoSetup, NoPlan}
 use Rattle.session.proofs.RequestCaseAnalysis.{NoMemory, NoSession, NotInPlaying, NoParameter, answer_to, reply_of}
 use Rattle.std.specs.Bool.{⊤}
-use Rattle.session.proofs.SharedTerms.{code_of, curve_refusal, CurveRefused, Field, first_of, has_session_in, HasCode}
-use Rattle.session.proofs.SharedTerms.{header_value, Hears, IsJudged, IsOwnFilm, IsReadAs, Method, Names, no_fault}
-use Rattle.session.proofs.SharedTerms.{option_of, Refusal, refusal_text, reply_text, Request, SessionState, Setup}
+use Rattle.session.proofs.SharedTerms.{code_of, curve_refusal, CurveRefused, Field, first_of, HasCode}
+use Rattle.session.proofs.SharedTerms.{header_value, Hears, IsJudged, IsOwnFilm, IsReadAs, Method, no_fault}
+use Rattle.session.proofs.SharedTerms.{option_of, Refusal, reply_text, Request, SessionState, Setup}
 use Rattle.session.specs.declared.states.State.{State}
 
 -- what a reply's code says of its request
@@ -45,23 +40,16 @@ caused_as old request is causes = subst (λ r. Causes old request (code_of r)) (
 
 curve_causes : (old : SessionState) (request : Request) (refused : CurveRefused)
     → Causes old request (code_of (curve_refusal refused))
-curve_causes old request (Fault (BufferTooSmall slot used least)) = tt
-curve_causes old request (Fault _) = tt
-curve_causes old request CurveMemory = tt
+curve_causes old request refused = grind arith
 
 own_causes : {h : HeardMessage} {other : Request} {refusal : Refusal} (request : Request) → OwnCause h other refusal
     → Causes h.old request (code_of refusal)
-own_causes {h} {other} {refusal} request (NoSetup film is) =
-    elim (unread h.old.settings other.head.now film refusal is) [
-      | NoChannels same none ↦ caused_as h.old request same tt
-      | NoMeaning same none ↦ caused_as h.old request same tt
-    ]
+own_causes {h} {other} {refusal} request (NoSetup film is) = grind arith
 own_causes {h} request (NoPlan setup paused range (inl none) may) = caused_as h.old request none.refusal_is tt
 own_causes {h} request (NoPlan setup paused range (inr none) may) =
     caused_as h.old request none.refusal_is (curve_causes h.old request none.refused)
 own_causes {h} request (NoMemory same may) = caused_as h.old request same tt
-own_causes {h} request (NoSession same init) =
-    caused_as h.old request same (λ setup set names. let none = ap setup_in init in let no : ⊥ = cc (none, set) in no)
+own_causes {h} request (NoSession same init) = grind arith
 own_causes {h} request (NotInPlaying same) = caused_as h.old request same tt
 own_causes {h} request (NoParameter same) = caused_as h.old request same tt
 
@@ -76,9 +64,7 @@ some_option request None (Some value) is its some = (value, inr its)
 some_option request None None is its some = absurd (let no : ⊥ = cc (some) in no)
 
 fits_film : (m : Method) (state : State) (film : ℕ) → IsOwnFilm state film → FitsFilm m state film
-fits_film Options state film own = tt
-fits_film Describe state film own = tt
-fits_film _ state film own = own
+fits_film m state film given = grind arith
 
 not_own : (state : State) (film : ℕ) → ¬ IsOwnFilm state film
     → (setup : Setup) × ((setup_in state ≡ Some setup) × (film ≢ setup.film))
@@ -91,8 +77,7 @@ judged_causes old request Unknown is = λ known. is.none known.0 known.1
 judged_causes old request Required is =
     some_option request (header_value request.head.now (codes "Require"))
     (header_value request.head.now (codes "Proxy-Require")) refl refl is.required
-judged_causes old request Session is = λ setup set names.
-    is.session (fits_session is.method (has_session_in old.state) (exists_in old.state setup set) names)
+judged_causes old request Session is = grind arith
 judged_causes old request Film is = λ authority film named. not_own old.state film (λ own. is.none
     (authority, (film, record { named = named; own = fits_film is.method old.state film own })))
 judged_causes old request NotNow is = tt
@@ -109,8 +94,7 @@ pub record CodedRequest (h : HeardMessage) (request : Request) (code : ℕ) (tex
 -- a text of another code
 coded : {h : HeardMessage} {request : Request} {code : ℕ} (its : ℕ) (text : List ℕ) → CodedRequest h request code text
     → its < 1000 → HasCode its text → Causes h.old request its → Causes h.old request code
-coded {h} {request} its text reply small has causes =
-    subst (Causes h.old request) (one_code text small reply.small has reply.has) causes
+coded {h} {request} its text reply small has causes = grind (arith, one_code text small reply.small has reply.has)
 
 -- a text of 200
 says : {h : HeardMessage} {request : Request} {code : ℕ} (sequence : Option ℕ) (fields : List Field) (body : List ℕ)

@@ -1,7 +1,8 @@
+use Rattle.std.proofs.Common.{arith}
 -- What a session replies to a SETUP that it accepts, to a PLAY that asks for a play, and to a
 -- TEARDOWN of its own.
 use Rattle.std.proofs.Common.{Ok, ◌≡◌, ◌⊎◌, ℕ, List, codes, Some, None, refl, sym, ap, subst, ◌∙◌, inl, inr}
-use Rattle.session.proofs.SharedTerms.{AsksForSetup, Ends, has_session_in, header_value, IsOwnFilm, IsOwnSession}
+use Rattle.session.proofs.SharedTerms.{AsksForSetup, Ends, has_session_in, header_value, IsOwnSession}
 use Rattle.session.proofs.SharedTerms.{IsPlannedRun, IsSetUp, Names, play_front, required_of, session_text}
 use Rattle.session.proofs.SharedTerms.{SessionState, Setup, TearsDown}
 use Rattle.session.specs.declared.states.Prepared.{Prepared}
@@ -66,14 +67,11 @@ play_answered c waits =
     let stored = started.asks.stored in
     let r = task_read c play.taken in
     let name = play.asked.authority.now in
-    let own : play.asked.film ≡ play.setup.film =
-    subst (λ (s : State). IsOwnFilm s play.asked.film) play.ready play.taken.judged.film.own in
-    let text : c.h.new.text ≡ play_front old stored play.setup planned play.taken.request.sequence name =
-    ap (λ (s : SessionState). s.text) started.asks.state in
+    let own : play.asked.film ≡ play.setup.film = grind arith in
+    let text : c.h.new.text ≡ play_front old stored play.setup planned play.taken.request.sequence name = grind arith in
     record {
       started = started;
-      planned_is = subst (λ x. IsPlannedRun old stored play.setup play.paused (header_value x (codes "Range")) planned)
-          r.head_is started.planned_is;
+      planned_is = grind arith;
       names = subst (λ n. Names old.films c.url name n) own
           (subst (λ u. Names old.films u name play.asked.film) r.url_is play.taken.judged.film.named);
       session = subst (λ x. IsOwnSession (has_session_in old.state) old.id (header_value x (codes "Session")) ⊥)
@@ -101,14 +99,11 @@ pub record IsOwnTeardown (old : SessionState) (url head : List ℕ) : Type 0 whe
   pub names : Names old.films url authority setup.film
 
 ends_alone : (h : HeardMessage) (sequence : ℕ) → Ends h.old sequence h.ask h.new → IsTornAnswered h.old sequence h.new
-ends_alone h sequence ends =
-    subst (IsTornAnswered h.old sequence) (sym ends.1) (record { text = refl; films = refl; id = refl; setup = refl })
+ends_alone h sequence ends = grind arith
 
 tears_in : (h : HeardMessage) (sequence : ℕ) (state : State) → h.old.state ≡ state
     → TearsDown state h.old sequence h.ask h.new → IsTornAnswered h.old sequence h.new
-tears_in h sequence (Playing setup play) same tears =
-    subst (IsTornAnswered h.old sequence) (sym tears.state)
-    (record { text = refl; films = refl; id = refl; setup = sym (ap setup_in same) })
+tears_in h sequence (Playing setup play) same tears = grind arith
 tears_in h sequence _ same tears = ends_alone h sequence tears
 
 pub teardown_answered : (c : HeardCall (codes "TEARDOWN")) → IsOwnTeardown c.h.old c.url c.head
@@ -121,10 +116,7 @@ teardown_answered c may =
     (header_value x (codes "Session")) ⊥ in
     let N : List ℕ → Type 0 = λ u. Names old.films u may.authority may.setup.film in
     let up : TakenUp c.h request Teardown = taken_up c.h request Teardown r.is_request (record {
-      talk = record {
-        spoken = record { named = r.method_is; free = ap required_of r.head_is ∙ may.free };
-        session = subst S (sym r.head_is) may.session;
-      };
+      talk = grind arith;
       film = inr (
         may.authority,
         (may.setup.film, record { named = subst N (sym r.url_is) may.names; own = its_film old.state may.setup_is }),

@@ -1,29 +1,24 @@
 -- Each reply of a session is a complete message.
-use Rattle.std.proofs.Common.{◌≡◌, ℕ, ◌+◌, ◌-◌, ◌*◌, ◌^◌, ◌<◌, ◌≤◌, ◌&&◌, Bool, true, suc, zero, nat_lt, nat_le, List}
-use Rattle.std.proofs.Common.{[], ◌∷◌, codes, cond, eqb, get_or, le_refl, length, slice_index, string_bytes, sum, drop}
+use Rattle.std.proofs.Common.{◌≡◌, ℕ, ◌-◌, ◌^◌, ◌<◌, ◌≤◌, true, List}
+use Rattle.std.proofs.Common.{[], codes, length, string_bytes, sum, drop}
 use Rattle.std.proofs.Common.{Option, Some, None, Ok, Err, refl, sym, ap, subst, ◌∙◌, arith, inl, inr}
 use Rattle.std.specs.Prelude.{IfSome}
-use Rattle.std.specs.List.{list_all}
-use Rattle.std.specs.Str.Parse.{digits_value}
-use Rattle.std.proofs.lemmas.Bool.{and_parts, cases_Bool, cond-false, cond-true, leb-true, ltb-true}
 use Rattle.std.proofs.lemmas.List.{length-drop, length-take}
-use Rattle.std.proofs.lemmas.List.Elements.{All-get_or}
 use Rattle.std.proofs.lemmas.List.Sums.{sum_by-take-drop, sum_by-take-le}
-use Rattle.std.proofs.lemmas.Option.{get_or_from_slice_get, same_Some, slice_get_within}
-use Rattle.session.proofs.SharedTerms.{after_offer, AreChannelsOf, AreFilms, Channels, curve_refusal, CurveRefused}
+use Rattle.std.proofs.lemmas.Option.{get_or_from_slice_get, slice_get_within}
+use Rattle.session.proofs.SharedTerms.{AreChannelsOf, AreFilms, Channels, curve_refusal, CurveRefused}
 use Rattle.session.proofs.SharedTerms.{fault_refusal, Film, first_of, first_sequence, good_name, header_value, Hears}
-use Rattle.session.proofs.SharedTerms.{IsFilmAt, IsJudged, IsPlanned, IsReadAs, IsSetupRead, length_ms, look_body}
-use Rattle.session.proofs.SharedTerms.{new_session_state, offer_body, option_of, picture_time, playback_of, Refusal}
+use Rattle.session.proofs.SharedTerms.{IsFilmAt, IsJudged, IsPlanned, IsReadAs, length_ms, look_body}
+use Rattle.session.proofs.SharedTerms.{new_session_state, offer_body, option_of, playback_of, Refusal}
 use Rattle.session.proofs.SharedTerms.{Request, rest_sizes, Run, run_of, session_text, SessionState, Settings, Setup}
 use Rattle.session.proofs.SharedTerms.{Stored, stored_sizes, Timing, timing_of}
 use Rattle.session.specs.declared.commands.Ask.{Ask}
 use Rattle.session.specs.declared.refusals.Task.{Task}
 use Rattle.vod_base.specs.declared.limits.TheConstants.{MAX_BYTES}
 use Rattle.vod_base.specs.Blanks.{without_blanks}
-use Rattle.vod_base.specs.Numbers.{is_decimal, number_of}
+use Rattle.vod_base.specs.Numbers.{number_of}
 use Rattle.vod_base.proofs.TextLemmas.{trimmed_is}
-use Rattle.mpeg_scan.specs.PictureRates.{picture_times}
-use Rattle.wire_curve.specs.FilmCurves.{bytes_used_in, due_slot}
+use Rattle.wire_curve.specs.FilmCurves.{bytes_used_in}
 use Rattle.wire_curve.specs.declared.film.CurveRefused.TheVariants.{Fault}
 use Rattle.wire_curve.specs.declared.film.CurveFault.TheVariants.{BufferTooSmall}
 use Rattle.wire_curve.specs.CurveFaults.{IsRefused as HaveNoCurves}
@@ -32,18 +27,15 @@ use Rattle.wire_curve.proofs.SlotUsageLemmas.{cond_le}
 use Rattle.film_frames.proofs.FilmPieceLemmas.{film-bound, film-few}
 use Rattle.rtsp_text.specs.Lines.{header_lines}
 use Rattle.rtsp_text.specs.declared.requests.RequestFault.{RequestFault}
-use Rattle.rtsp_text.specs.declared.requests.RequestFault.TheVariants.{BadLine}
 use Rattle.rtsp_text.proofs.RequestBounds.{read_url}
 use Rattle.rtsp_text.proofs.FirstField.{first_tells, number_tells}
 use Rattle.rtsp_text.proofs.LineBounds.{value_inside}
-use Rattle.rtsp_fields.specs.Transports.{HasChannels as AreNamedChannels}
 use Rattle.rtsp_fields.specs.Urls.{IsRead}
-use Rattle.rtsp_methods.specs.declared.refusals.Refusal.TheVariants.{Buffer, Range}
 use Rattle.film_streams.specs.Films.{milliseconds_at}
 use Rattle.film_streams.specs.StreamNumbers.{timestamp_at}
 use Rattle.rtsp_methods.specs.RequiredOptions.{or_nothing}
 use Rattle.session.specs.Methods.{first_number}
-use Rattle.session_laws.specs.CompleteReplies.{AnswersLook, AnswersPlay, HasValidIds, LeavesRoom, RepliesAreComplete}
+use Rattle.session_laws.specs.CompleteReplies.{AnswersPlay, HasValidIds, LeavesRoom, RepliesAreComplete}
 use Rattle.rtsp_replies.specs.Messages.{IsMessage}
 use Rattle.session.proofs.RequestUniqueness.{first_sequence_is}
 use Rattle.rtsp_replies.proofs.ReplyTextLemmas.{IsPrinted, bare_between, printed-w64}
@@ -55,7 +47,7 @@ use Rattle.session.proofs.RequestCaseAnalysis.{ToEmpty, OwnCause, NoSetup, NoPla
 use Rattle.session.proofs.RequestCaseAnalysis.{NotInPlaying, NoParameter, TakenTask, answer_to, reply_of, asked_by}
 use Rattle.session.proofs.RequestCaseAnalysis.{by_answer, made_by}
 use Rattle.session_laws.proofs.PlayInReadyLemmas.{PlayStarted}
-use Rattle.session_laws.proofs.ReplyContentLemmas.{authority_of, few_ms}
+use Rattle.session_laws.proofs.ReplyContentLemmas.{authority_of}
 use Rattle.rtsp_replies.proofs.ReplyMessages.{public_whole, session_whole, plain_whole, parameters_whole, AreSmall}
 use Rattle.rtsp_replies.proofs.ReplyMessages.{setup_whole, name_printed, describe_whole, IsRepeated, repeats_nothing}
 use Rattle.rtsp_replies.proofs.ReplyMessages.{HasFitLeast, refusal_whole, overflow_whole, full_whole, PlayParts}
@@ -64,25 +56,10 @@ use Rattle.rtsp_replies.proofs.ReplyMessages.{play_whole, look_short, offer_shor
 good_at : (films : List Stored) (number : ℕ) (stored : Stored) → AreFilms films → IsFilmAt films number stored
     → good_name (string_bytes stored.name) ≡ true
 good_at films number stored are at =
-    let IsGood : Stored → Type 0 = λ film. good_name (string_bytes film.name) ≡ true in
-    subst IsGood (get_or_from_slice_get films number stored stored at)
-    (All-get_or IsGood films number stored (slice_get_within films number stored at) are.good)
-
--- a picture takes at most a second
-brief_at : (times : List ℕ) (k : ℕ) → list_all (λ time. nat_le time 360000) times ≡ true
-    → get_or times k 360000 ≤ 360000
-brief_at [] k all = le_refl 360000
-brief_at (time ∷ times) zero all =
-    leb-true time 360000 (and_parts (nat_le time 360000) (list_all (λ t. nat_le t 360000) times) all).0
-brief_at (time ∷ times) (suc k) all =
-    brief_at times k (and_parts (nat_le time 360000) (list_all (λ t. nat_le t 360000) times) all).1
-
-rate_brief : (rate : ℕ) → picture_time rate ≤ 360000
-rate_brief rate = brief_at picture_times (rate - 1) refl
+    grind (arith, get_or_from_slice_get films number stored stored at, slice_get_within films number stored at)
 
 time_fits : (film : Film) (unit : ℕ) → unit ≤ 4194304 → milliseconds_at film unit < 2 ^ 64
-time_fits film unit within =
-    omega (arith, few_ms 4194304 unit (picture_time film.rate) within (omega arith) (rate_brief film.rate))
+time_fits film unit within = grind arith
 
 -- the value of a header field, as a reply repeats it
 header_repeated : (head name : List ℕ) (found : Option (List ℕ)) → header_value head name ≡ found → length head ≤ 15872
@@ -103,8 +80,7 @@ header_repeated head name (Some value) is short =
 
 first_repeated : (a b : Option (List ℕ)) → IsRepeated (or_nothing a) → IsRepeated (or_nothing b)
     → IsRepeated (or_nothing (first_of a b))
-first_repeated None b one other = other
-first_repeated (Some value) b one other = one
+first_repeated a b given given' = grind arith
 
 option_repeated : (head : List ℕ) → length head ≤ 15872 → IsRepeated (option_of head)
 option_repeated head short =
@@ -114,15 +90,7 @@ option_repeated head short =
 
 -- the number of a request
 number_small : (text : List ℕ) (n : ℕ) → number_of text ≡ Some n → n < 2 ^ 64
-number_small text n is =
-    let value = digits_value 10 text in
-    let fits : Bool = is_decimal text && nat_lt value (2 ^ 64) in
-    elim (cases_Bool fits) [
-      | inl good ↦
-          let same : value ≡ n = same_Some value n (sym (cond-true fits (Some value) None good) ∙ is) in
-          omega (arith, same, ltb-true value (2 ^ 64) (and_parts (is_decimal text) (nat_lt value (2 ^ 64)) good).1)
-      | inr bad ↦ absurd (let wrong : None ≡ Some n = sym (cond-false fits (Some value) None bad) ∙ is in cc)
-    ]
+number_small text n is = grind arith
 
 sequence_fits : (message : List ℕ) (found : Option ℕ) → first_sequence message ≡ found → IfSome found (λ n. n < 2 ^ 64)
 sequence_fits message None is = tt
@@ -132,11 +100,7 @@ sequence_fits message (Some n) is =
 
 -- why a run has no plan: the least buffer is of the film's own bytes
 used_fits : (sizes : List ℕ) (timing : Timing) (t : ℕ) → bytes_used_in sizes timing t ≤ sum sizes
-used_fits sizes timing t =
-    let below = sum_by-range-le (λ k. cond (eqb (due_slot timing k) t) (get_or sizes k 0) 0)
-    (λ k. get_or sizes k 0) 0 (length sizes)
-    (λ k l u. cond_le (eqb (due_slot timing k) t) (get_or sizes k 0)) in
-    omega (arith, below, sum_by-range-all sizes)
+used_fits sizes timing t = grind (arith, sum_by-range-le, cond_le, sum_by-range-all sizes)
 
 rest_fits : (stored : Stored) (run : Run) → sum (rest_sizes (stored_sizes stored) run) ≤ MAX_BYTES
 rest_fits stored run =
@@ -165,32 +129,17 @@ curves_fit stored run timing _ none least same = absurd (let no : ⊥ = cc in no
 
 planned_fits : (old : SessionState) (setup : Setup) (paused : Option Run) (range : Option (List ℕ)) (refusal : Refusal)
     → IsPlanned old setup paused range (Err refusal) → HasFitLeast refusal
-planned_fits old setup paused range refusal (inl no_run) least same =
-    absurd (let wrong : Range ≡ Buffer least = sym no_run.refusal_is ∙ same in cc)
+planned_fits old setup paused range refusal (inl no_run) least same = grind arith
 planned_fits old setup paused range refusal (inr no_plan) least same =
     curves_fit no_plan.stored (run_of no_plan.wanted)
     (timing_of (playback_of no_plan.stored.film old.settings setup) (run_of no_plan.wanted))
     no_plan.refused no_plan.no_curves least (sym no_plan.refusal_is ∙ same)
 
 fault_fits : (fault : RequestFault) → HasFitLeast (fault_refusal fault)
-fault_fits BadLine least same = absurd (let no : ⊥ = cc in no)
-fault_fits _ least same = absurd (let no : ⊥ = cc in no)
-
--- the channels of a SETUP are small
-channels_small : {text : List ℕ} (channels : Channels) → AreNamedChannels text channels → AreSmall channels
-channels_small channels (inl named) =
-    elim named.are [
-      | inl pair ↦ record { media = omega (arith, pair.media.below); control = omega (arith, pair.control.below) }
-      | inr single ↦ record {
-        media = omega (arith, single.media.below);
-        control = omega (arith, single.control, single.media.below);
-      }
-    ]
-channels_small channels (inr none) = record { media = omega (arith, none.media); control = omega (arith, none.control) }
+fault_fits fault = grind arith
 
 setup_small : (value : Option (List ℕ)) (channels : Channels) → AreChannelsOf value channels → AreSmall channels
-setup_small None channels is = absurd is
-setup_small (Some value) channels is = channels_small channels is.taken.has
+setup_small value channels given = grind arith
 
 -- a request whose message leaves room for what a reply repeats
 record SizedRequest (message : List ℕ) (request : Request) : Type 0 where
@@ -244,8 +193,7 @@ own_id well = subst (IsPrinted 16) (sym well.named.id_is) (printed-w64 well.name
 
 own_fits : {h : HeardMessage} {request : Request} {refusal : Refusal} → OwnCause h request refusal
     → HasFitLeast refusal
-own_fits {h} {request} (NoSetup film is) least same =
-    absurd (subst (λ r. IsSetupRead h.old.settings request.head.now film (Err r)) same is)
+own_fits {h} {request} (NoSetup film is) least same = grind arith
 own_fits {h} {refusal} (NoPlan setup paused range is may) least same =
     planned_fits h.old setup paused range refusal is least same
 own_fits (LacksMemory is may) least same = absurd (let no : ⊥ = cc in no)
@@ -364,18 +312,11 @@ replies_whole old message ask new named room hears =
 -- what a session keeps from its beginning
 pub begins_named : (films : List Stored) (settings : Settings) (words : List ℕ) → AreFilms films
     → HasValidIds (new_session_state films settings words)
-begins_named films settings words are = record {
-  films = are;
-  number = slice_index words 0 * 2 ^ 32 + slice_index words 1;
-  id_is = refl;
-}
+begins_named films settings words are = grind arith
 
 answer_named : {h : HeardMessage} → HasValidIds h.old → (answer : Answer h) → HasValidIds (made_by answer)
-answer_named named (RepliesAlone reply is) =
-    record { films = named.films; number = named.number; id_is = named.id_is }
-answer_named named _ = record { films = named.films; number = named.number; id_is = named.id_is }
+answer_named given answer = grind arith
 
 pub keeps_named : (old new : SessionState) (message : List ℕ) (ask : Ask) → Hears old message ask new → HasValidIds old
     → HasValidIds new
-keeps_named old new message ask hears named =
-    let answer = answer_to (heard_by hears) in by_answer (λ a s. HasValidIds s) answer (answer_named named answer)
+keeps_named old new message ask hears named = grind (arith, answer_to (heard_by hears), by_answer, answer_named)

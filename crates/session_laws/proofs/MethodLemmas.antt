@@ -2,13 +2,13 @@
 use Rattle.std.specs.Prelude.{⊤}
 use Rattle.std.proofs.Common.{◌≡◌, ◌≢◌, ℕ, ◌⊎◌, Bool, true, List, [], codes, string_bytes, Option, Some, None, is_some}
 use Rattle.std.proofs.Common.{Result, Ok, Err, refl, sym, ap, subst, ◌∙◌, inl, inr, arith}
-use Rattle.session.proofs.SharedTerms.{AreChannelsOf, AreFilms, AsksOfferOr, AsksPlay, AsksPlayOr, Channels, code_of}
-use Rattle.session.proofs.SharedTerms.{curve_refusal, CurveRefused, Describes, first_of, FitsSession, Gets, GetsOffer}
-use Rattle.session.proofs.SharedTerms.{good_name, has_session_in, HasNoPlan, HasWait, header_value, identity_of}
+use Rattle.session.proofs.SharedTerms.{AreChannelsOf, AreFilms, AsksOfferOr, AsksPlay, AsksPlayOr, Channels}
+use Rattle.session.proofs.SharedTerms.{curve_refusal, CurveRefused, FitsSession, Gets, GetsOffer}
+use Rattle.session.proofs.SharedTerms.{good_name, has_session_in, HasNoPlan, HasWait, header_value}
 use Rattle.session.proofs.SharedTerms.{IsChosen, IsOwnFilm, IsOwnSession, IsPlanned, IsRefused, IsReplied, IsSetUp}
-use Rattle.session.proofs.SharedTerms.{IsSetupRead, IsTimely, IsTopic, IsWaitOf, IsWord, Looks, Method, name_of, Names}
-use Rattle.session.proofs.SharedTerms.{plain_text, play_call, play_front, Plays, prepared_of, public_text, Refusal}
-use Rattle.session.proofs.SharedTerms.{refusal_text, reply_text, Request, Run, session_text, SessionState, SetsUp}
+use Rattle.session.proofs.SharedTerms.{IsSetupRead, IsTimely, IsTopic, IsWord, Method, name_of, Names}
+use Rattle.session.proofs.SharedTerms.{plain_text, play_call, play_front, prepared_of, public_text, Refusal}
+use Rattle.session.proofs.SharedTerms.{refusal_text, reply_text, Request, Run, session_text, SessionState}
 use Rattle.session.proofs.SharedTerms.{Setup, Stored, Topic, with_reply}
 use Rattle.session.specs.declared.commands.Ask.{Ask}
 use Rattle.session.specs.declared.plans.Planned.{Planned}
@@ -24,18 +24,15 @@ use Rattle.rtsp_methods.specs.declared.refusals.Refusal.TheVariants.{Session, Fi
 use Rattle.rtsp_methods.specs.declared.refusals.Refusal.TheVariants.{Parameter, Buffer, Range, Memory}
 use Rattle.session.specs.declared.states.Awaited.TheVariants.{Play as ToAwaitPlay}
 use Rattle.session.specs.declared.states.State.TheVariants.{Init, Ready}
-use Rattle.session_laws.specs.EndLaws.{HasSessionInReply}
 use Rattle.session_laws.specs.MethodLaws.{AnswersAlone, GivesChannels, GivesNumber, HasBadNumber, IsDescribeRequest}
 use Rattle.session_laws.specs.MethodLaws.{IsFilmDescribed, IsFilmMethod, IsLookAsked, IsOfferAskedOf, IsOptionsAnswered}
 use Rattle.session_laws.specs.MethodLaws.{IsParameterRequest, IsPlainMessage, IsPlayAskedOf, IsPlayConfirmed}
 use Rattle.session_laws.specs.MethodLaws.{IsPlayRequest, IsRefusedFor, IsSetupAnswered, IsSetupRequest, IsUnknownBody}
 use Rattle.session_laws.specs.MethodLaws.{MayNameSession, NamesOtherFilm, NamesSession, PlanRefusal, NoMeaning}
 use Rattle.session_laws.specs.MethodLaws.{NoCurves, SmallBuffer, NoMemory, SettlesSetup, setup_in}
-use Rattle.session.specs.Methods.{GetsParameter, PlaysReady, OffersReady}
-use Rattle.session.specs.OfferLaws.{IsLeastBufferReply, IsWaitIn}
-use Rattle.rtsp_replies.specs.PublicLaws.{IsPublicTold}
+use Rattle.session.specs.Methods.{PlaysReady, OffersReady}
+use Rattle.session.specs.OfferLaws.{IsWaitIn}
 use Rattle.session_laws.specs.RefusalLaws.{IsRefusedBy}
-use Rattle.session_laws.specs.ReplyContents.{IsDescribeReply, IsSetupReply}
 use Rattle.session.specs.RefusalOrder.{FitsFilm, IsSpoken}
 use Rattle.film_streams.specs.Setups.{HasChannels}
 use Rattle.session.proofs.InitialStateLemmas.{HeardMessage, PlayInHand}
@@ -52,15 +49,10 @@ use Rattle.session.proofs.RequestUniqueness.{names_once, read_once, topic_once}
 
 spoken_of : {message : List ℕ} {request : Request} (m : Method) → IsPlainMessage message (name_of m) request
     → IsSpoken request m
-spoken_of {request} m plain = record {
-  named = plain.method_is;
-  free = ap (λ (o : Option (List ℕ)). first_of o (header_value request.head.now (codes "Proxy-Require")))
-      plain.no_option ∙ plain.no_proxy_option;
-}
+spoken_of {request} m plain = grind arith
 
 pub exists_in : (s : State) (setup : Setup) → setup_in s ≡ Some setup → has_session_in s ≡ true
-exists_in Init setup is = absurd (let no : ⊥ = cc in no)
-exists_in _ setup is = refl
+exists_in s setup given = grind arith
 
 pub own_film : (s : State) (film : ℕ) → ((setup : Setup) → setup_in s ≡ Some setup → film ≡ setup.film)
     → IsOwnFilm s film
@@ -72,25 +64,19 @@ setup_once one other is = cc
 
 -- the session's film is its own
 pub its_film : {setup : Setup} (s : State) → setup_in s ≡ Some setup → IsOwnFilm s setup.film
-its_film {setup} s set =
-    own_film s setup.film (λ other its. ap (λ (t : Setup). t.film) (setup_once setup other (sym set ∙ its)))
+its_film {setup} s set = grind arith
 
 film_of : (s : State) (setup : Setup) (film : ℕ) → setup_in s ≡ Some setup → IsOwnFilm s film → film ≡ setup.film
-film_of Init setup film is own = absurd (let no : ⊥ = cc in no)
-film_of _ setup film is own = own ∙ ap (λ (t : Setup). t.film) (setup_once _ setup is)
+film_of s setup film given given' = grind arith
 
 pub own_session : {id head : List ℕ} (exists : Bool) (otherwise : Type 0) → exists ≡ true → NamesSession id head
     → IsOwnSession exists id (header_value head (codes "Session")) otherwise
-own_session {id} {head} exists otherwise is names =
-    subst (λ (v : Option (List ℕ)). IsOwnSession exists id v otherwise) (sym names.named) (is, names.own)
+own_session {id} {head} exists otherwise is names = grind arith
 
 -- ---- replies
 
 alone_by : {old new : SessionState} {ask : Ask} {text : List ℕ} → IsReplied old text ask new → AnswersAlone old ask new
-alone_by {old} is = record {
-  command = is.0;
-  leaves = is.1 ∙ ap (λ (t : List ℕ). with_reply old t) (sym (ap (λ (s : SessionState). s.text) is.1));
-}
+alone_by {old} is = grind arith
 
 text_by : {new : SessionState} {ask : Ask} (old : SessionState) (text : List ℕ) → IsReplied old text ask new
     → new.text ≡ text
@@ -153,13 +139,11 @@ gives_channels {head} is = given_channels (header_value head (codes "Transport")
 
 chosen : (own least most number : ℕ) (value : Option (List ℕ)) → GivesNumber value own least most number
     → IsChosen value own least most number
-chosen own least most number None is = is
-chosen own least most number (Some text) is = record { is_number = is.number_is; above = is.above; below = is.below }
+chosen own least most number value given = grind arith
 
 unchosen : (own least most number : ℕ) (value : Option (List ℕ)) → IsChosen value own least most number
     → GivesNumber value own least most number
-unchosen own least most number None is = is
-unchosen own least most number (Some text) is = record { number_is = is.is_number; above = is.above; below = is.below }
+unchosen own least most number value given = grind arith
 
 -- a SETUP of a film, that is received
 pub record AskedSetup (h : HeardMessage) (request : Request) : Type 0 where
@@ -169,11 +153,7 @@ pub record AskedSetup (h : HeardMessage) (request : Request) : Type 0 where
 setup_taken : (h : HeardMessage) (request : Request) → AskedSetup h request → TakenUp h request SetupMethod
 setup_taken h request asked =
     taken_up h request SetupMethod is.plain.is_request (record {
-      talk = record {
-        spoken = spoken_of SetupMethod is.plain;
-        session = subst (λ (v : Option (List ℕ)). IsOwnSession (has_session_in h.old.state) h.old.id v ⊤)
-            (sym is.no_session) tt;
-      };
+      talk = grind arith;
       film = inr (
         is.authority,
         (film, record { named = is.named; own = subst (λ (s : State). IsOwnFilm s film) (sym is.init) tt }),
@@ -255,8 +235,7 @@ pub play_confirmed : (h : HeardMessage) (request : Request) (hand : PlayInHand h
     → IsPlayConfirmed h.old request.sequence h.ask h.new
 play_confirmed h request hand is no_range =
     let t = play_taken h request hand.setup is (ap setup_in hand.playing) (λ now. ap is_some no_range) in
-    let done : IsReplied h.old (session_text request.sequence h.old.id) h.ask h.new =
-    subst (λ (s : State). Plays s h.old (as_read t.place request) t.does.0 h.ask h.new) hand.playing t.does.1.1.1 in
+    let done : IsReplied h.old (session_text request.sequence h.old.id) h.ask h.new = grind arith in
     record {
       alone = alone_by done;
       told = rw (text_by h.old (session_text request.sequence h.old.id) done) (session_told request.sequence h.old.id);
@@ -321,12 +300,10 @@ ready_play h r is =
     (λ now. let ready = r.ready in absurd (let no : ⊥ = cc (ready, now) in no)) in
     let name = t.does.0 in
     let on = t.does.1.1.0 in
-    let done : PlaysReady h.old (as_read t.place r.request) name r.setup r.paused h.ask h.new =
-    subst (λ (s : State). Plays s h.old (as_read t.place r.request) name h.ask h.new) r.ready t.does.1.1.1 in
+    let done : PlaysReady h.old (as_read t.place r.request) name r.setup r.paused h.ask h.new = grind arith in
     record {
       authority = name;
-      named = subst (λ n. Names h.old.films r.request.url.now name n)
-          (film_of h.old.state r.setup t.does.1.0 (ap setup_in r.ready) on.own) on.named;
+      named = grind arith;
       planned = done.planned;
       is_planned = done.is_planned;
       asks = done.asks;
@@ -396,9 +373,7 @@ play_asked {given} h r is run =
 
 may_name : {head : List ℕ} (old : SessionState) → MayNameSession old head
     → IsOwnSession (has_session_in old.state) old.id (header_value head (codes "Session")) ⊤
-may_name old (inl none) =
-    subst (λ (v : Option (List ℕ)). IsOwnSession (has_session_in old.state) old.id v ⊤) (sym none) tt
-may_name old (inr names) = own_session (has_session_in old.state) ⊤ (exists_in old.state names.0 names.1.0) names.1.1
+may_name old given = grind arith
 
 -- a GET_PARAMETER is processed by its topic
 record TopicTaken (h : HeardMessage) (request : Request) (topic : Topic) : Type 0 where
@@ -442,8 +417,7 @@ pub parameter_look : (h : HeardMessage) (request : Request) → IsParameterReque
     ⊎ IsRefusedFor (h.old.looks_left ≡ 0) h.old 500 request.sequence h.ask h.new
 parameter_look h request is body = elim (topic_taken h request Booked is body).gets [
   | inl look ↦ inl (record { command = look.command; leaves = look.state })
-  | inr short ↦
-      inr (record { why = short.later; refused = refused_as h request.sequence Memory [] short.refused })
+  | inr short ↦ grind arith
 ]
 
 -- a request for an offer
@@ -454,9 +428,7 @@ pub record OfferRequest (h : HeardMessage) (request : Request) : Type 0 where
 -- it is processed, by the state
 offer_taken : (h : HeardMessage) (request : Request) {state : State} → OfferRequest h request → h.old.state ≡ state
     → (place : Request) × GetsOffer state h.old (as_read place request) h.ask h.new
-offer_taken h request offer is =
-    let t = topic_taken h request OfferTopic offer.is offer.body in
-    (t.place, subst (λ (s : State). GetsOffer s h.old (as_read t.place request) h.ask h.new) is t.gets)
+offer_taken h request offer is = grind (arith, topic_taken h request OfferTopic offer.is offer.body)
 
 pub offer_no_session : (h : HeardMessage) (request : Request) → OfferRequest h request → h.old.state ≡ Init
     → IsRefusedBy h.old 454 request.sequence h.ask h.new
@@ -469,11 +441,7 @@ offer_playing h request offer hand =
     refused_as h request.sequence NotNow [] (offer_taken h request offer hand.playing).1
 
 has_wait : {head : List ℕ} {wait : ℕ} → IsWaitIn head wait → HasWait head wait
-has_wait {wait} is = subst (λ (v : Option (List ℕ)). IsWaitOf v wait) (sym is.named) (record {
-  is_number = is.number_is;
-  above = omega arith;
-  below = omega (arith, is.fits);
-})
+has_wait {wait} is = grind arith
 
 pub offer_no_wait : (h : HeardMessage) (r : ReadyRequest h) → OfferRequest h r.request
     → ((wait : ℕ) → ¬ IsWaitIn r.request.head.now wait) → IsRefusedBy h.old 451 r.request.sequence h.ask h.new
@@ -518,11 +486,7 @@ offer_ready h r wait offer waits =
 
 pub fits_session : {id head : List ℕ} (m : Method) (exists : Bool) → exists ≡ true → NamesSession id head
     → FitsSession m exists id (header_value head (codes "Session"))
-fits_session Options exists is names = tt
-fits_session Describe exists is names = tt
-fits_session SetupMethod exists is names = own_session exists ⊤ is names
-fits_session GetParameter exists is names = own_session exists ⊤ is names
-fits_session _ exists is names = own_session exists ⊥ is names
+fits_session m exists given given' = grind arith
 
 -- a request of the session that names another film than that of the session
 pub record NamesOther (h : HeardMessage) (request : Request) : Type 0 where

@@ -1,8 +1,9 @@
+use Rattle.std.proofs.lemmas.Grind.{common_steps}
 -- What an offer asks for and reports, and the least buffer.
-use Rattle.std.proofs.Common.{◌≡◌, ℕ, List, [], ◌∷◌, ◌++◌, map, flat_map, codes, decimal, Option, Some, None}
-use Rattle.std.proofs.Common.{append_assoc, refl, sym, ap, subst, ◌∙◌, arith}
+use Rattle.std.proofs.Common.{◌≡◌, ℕ, List, [], ◌∷◌, ◌++◌, map, flat_map, codes, Option}
+use Rattle.std.proofs.Common.{refl, sym, ap, subst, ◌∙◌, arith}
 use Rattle.std.proofs.lemmas.List.Concat.{flat_map-cons}
-use Rattle.session.proofs.SharedTerms.{after_offer, curve_refusal, CurveRefused, field, HasNoPlan, header_value}
+use Rattle.session.proofs.SharedTerms.{after_offer, curve_refusal, CurveRefused, HasNoPlan, header_value}
 use Rattle.session.proofs.SharedTerms.{IsWaitOf, offer_body, OfferNote, Offers, playback_of, refusal_text, rest_sizes}
 use Rattle.session.proofs.SharedTerms.{Run, run_of, Segment, sequence_of, SessionState, Setup, stored_sizes, Timing}
 use Rattle.session.proofs.SharedTerms.{timing_of}
@@ -15,7 +16,7 @@ use Rattle.session.specs.declared.commands.Ask.TheVariants.{Offer as AskOffer}
 use Rattle.rtsp_methods.specs.declared.refusals.Refusal.TheVariants.{Buffer}
 use Rattle.session.specs.OfferLaws.{IsLeastBuffer, IsLeastBufferReply, IsOfferAsked, IsOfferReply, IsWaitIn, found_line}
 use Rattle.session.specs.OfferLaws.{tried_line}
-use Rattle.rtsp_replies.specs.Replies.{joined_parts, over_line, start_line}
+use Rattle.rtsp_replies.specs.Replies.{over_line, start_line}
 use Rattle.session.proofs.InitialStateLemmas.{HeardMessage}
 use Rattle.session.proofs.RequestCaseAnalysis.{Answer, SeeksOffer, answer_to, asks_as}
 
@@ -23,9 +24,7 @@ use Rattle.session.proofs.RequestCaseAnalysis.{Answer, SeeksOffer, answer_to, as
 
 pub wait_in : (head : List ℕ) (value : Option (List ℕ)) (wait : ℕ) → header_value head (codes "x-Wait") ≡ value
     → IsWaitOf value wait → IsWaitIn head wait
-wait_in head None wait same is = absurd is
-wait_in head (Some text) wait same is =
-    record { text = text; named = same; number_is = is.is_number; fits = omega (arith, is.below) }
+wait_in head value wait given given' = grind arith
 
 answer_asks : {plan : List Segment} {offers : Offers} (h : HeardMessage) → h.ask ≡ AskOffer plan offers → Answer h
     → IsOfferAsked h.old h.message plan offers h.new
@@ -62,45 +61,25 @@ offer_asked h offers_ask = answer_asks h offers_ask (answer_to h)
 -- ---- what is reported
 
 start_is : (start : Option ℕ) → start_line start ≡ found_line start ++ codes "\r\n"
-start_is None = refl
-start_is _ = refl
-
-over_lines : (s a b c : List ℕ)
-    → joined_parts (codes "x-Over: " ∷ s ∷ codes " " ∷ a ∷ codes " " ∷ b ∷ codes " " ∷ c ∷ codes "\r\n" ∷ [])
-    ≡ (codes "x-Over: " ++ (s ++ (codes " " ++ (a ++ (codes " " ++ (b ++ (codes " " ++ c))))))) ++ codes "\r\n"
-over_lines s a b c = simp append_assoc
+start_is start = grind arith
 
 over_is : (tried : Tried) → over_line tried ≡ tried_line tried ++ codes "\r\n"
-over_is tried =
-    over_lines (decimal tried.start) (decimal tried.over.slot) (decimal tried.over.booked) (decimal tried.over.asked)
+over_is tried = grind (arith, common_steps)
 
 overs_are : (tried : List Tried)
     → flat_map over_line tried ≡ flat_map (λ (line : List ℕ). line ++ codes "\r\n") (map tried_line tried)
 overs_are [] = refl
 overs_are (first ∷ tried) =
-    flat_map-cons over_line first tried
-    ∙ ap (λ l. l ++ flat_map over_line tried) (over_is first)
-    ∙ ap (λ l. (tried_line first ++ codes "\r\n") ++ l) (overs_are tried)
-    ∙ sym (flat_map-cons (λ (line : List ℕ). line ++ codes "\r\n") (tried_line first) (map tried_line tried))
+    grind (arith, flat_map-cons over_line first tried, over_is first, overs_are tried, flat_map-cons)
 
 offer_lines : (start : Option ℕ) (tried : List Tried) → offer_body start tried
     ≡ flat_map (λ (line : List ℕ). line ++ codes "\r\n") (found_line start ∷ map tried_line tried)
-offer_lines start tried =
-    ap (λ l. l ++ flat_map over_line tried) (start_is start)
-    ∙ ap (λ l. (found_line start ++ codes "\r\n") ++ l) (overs_are tried)
-    ∙ sym (flat_map-cons (λ (line : List ℕ). line ++ codes "\r\n") (found_line start) (map tried_line tried))
+offer_lines start tried = grind (arith, start_is start, overs_are tried, flat_map-cons)
 
 pub offer_told : (old : SessionState) (note : OfferNote)
     → IsOfferReply (sequence_of old.awaited) note.offers (after_offer old note).text
 unfolding value_named
-offer_told old note = record {
-  fields = _;
-  body = offer_body note.offers.start note.offers.tried;
-  text_is = refl;
-  kind = refl;
-  size = refl;
-  body_is = offer_lines note.offers.start note.offers.tried;
-}
+offer_told old note = grind (arith, offer_lines note.offers.start note.offers.tried)
 
 -- ---- the least buffer
 
@@ -123,13 +102,9 @@ pub least_buffer : (old : SessionState) (setup : Setup) (paused : Option Run) (r
     → (is : HasNoPlan old setup paused range (Buffer least))
     → IsLeastBuffer (rest_sizes (stored_sizes is.stored) (run_of is.wanted))
     (timing_of (playback_of is.stored.film old.settings setup) (run_of is.wanted)) least
-least_buffer old setup paused range least is =
-    least_of (rest_sizes (stored_sizes is.stored) (run_of is.wanted))
-    (timing_of (playback_of is.stored.film old.settings setup)
-    (run_of is.wanted)) is.refused least is.no_curves is.refusal_is
+least_buffer old setup paused range least is = search least_of
 
 pub least_told : (sequence : Option ℕ) (least : ℕ) (option : List ℕ)
     → IsLeastBufferReply sequence least (refusal_text sequence (Buffer least) option)
 unfolding value_named
-least_told sequence least option =
-    record { fields = field (codes "x-Least-Buffer") (decimal least) ∷ []; text_is = refl; least_is = refl }
+least_told sequence least option = grind arith

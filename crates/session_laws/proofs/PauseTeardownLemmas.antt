@@ -1,18 +1,19 @@
+use Rattle.std.proofs.Common.{arith}
+use Rattle.std.proofs.lemmas.Grind.{common_steps}
 -- What a PAUSE and a TEARDOWN come to.
-use Rattle.std.proofs.Common.{◌≡◌, ℕ, ◌⊎◌, ◌&&◌, Bool, true, false, cond, List, [], ◌∷◌, Some, codes, refl, sym, ap}
+use Rattle.std.proofs.Common.{◌≡◌, ℕ, ◌⊎◌, Bool, true, false, cond, List, [], ◌∷◌, Some, codes, refl, sym, ap}
 use Rattle.std.proofs.Common.{subst, ◌∙◌, inl, inr}
-use Rattle.session.proofs.SharedTerms.{after_halt, after_play, AsksHalt, Ends, field, Hears, is_between, is_sending}
+use Rattle.session.proofs.SharedTerms.{after_halt, after_play, AsksHalt, Ends, field, Hears, is_sending}
 use Rattle.session.proofs.SharedTerms.{is_taken, IsReadAs, IsTimely, Method, new_session_state, next_boundary, next_of}
-use Rattle.session.proofs.SharedTerms.{option_of, Pauses, Request, sent_due, sent_reply, sent_slot, session_text}
-use Rattle.session.proofs.SharedTerms.{SessionState, Setup, stepped_in, TearsDown}
+use Rattle.session.proofs.SharedTerms.{option_of, Pauses, Request, sent_reply, sent_slot, session_text}
+use Rattle.session.proofs.SharedTerms.{SessionState, Setup, TearsDown}
 use Rattle.session.specs.declared.commands.Ask.{Ask}
 use Rattle.session.specs.declared.states.Awaited.{Awaited}
 use Rattle.session.specs.declared.states.Play.{Play as Played}
 use Rattle.session.specs.declared.states.State.{State}
 use Rattle.rtsp_text.specs.Replies.{value_named}
 use Rattle.session.specs.declared.commands.Ask.TheVariants.{Reply, Halt as AskHalt}
-use Rattle.session.specs.declared.states.Awaited.TheVariants.{Halt as ToHalt}
-use Rattle.session.specs.declared.states.AfterHalt.TheVariants.{Done, Torn}
+use Rattle.session.specs.declared.states.AfterHalt.TheVariants.{Torn}
 use Rattle.session.specs.declared.states.State.TheVariants.{Playing}
 use Rattle.session_laws.specs.EndLaws.{CanBePaused, CanBeTornDown, EndsSession, HaltsPlay, HasTeardown, IsPausedPlay}
 use Rattle.session_laws.specs.EndLaws.{IsPause, HasSessionInReply, IsTeardownHeard, IsTornDown}
@@ -21,7 +22,6 @@ use Rattle.session.specs.RequestSteps.{is_torn}
 use Rattle.rtsp_methods.specs.declared.methods.Method.TheVariants.{Pause, Teardown}
 use Rattle.session.specs.LookLaws.{SessionEvent, Message, Halt, Slot, Sending, AreAfter, IsAfter}
 use Rattle.session_laws.specs.PlayLaws.{IsDeclined, PassesEarlierChecks}
-use Rattle.session.specs.SlotSteps.{is_done_in, sent_in}
 use Rattle.session.specs.SessionStates.{is_playing_in}
 use Rattle.session.proofs.InitialStateLemmas.{Beginning, HeardMessage, heard_by}
 use Rattle.session.proofs.RequestCaseAnalysis.{Answer, Replies, SetsUp, StopsPlay, EndsSession as EndsAlone, answer_to}
@@ -43,8 +43,7 @@ torn_halt {sequence} h playing asks = record {
   told = subst (HasSessionInReply sequence h.old.id) (sym (ap (λ (s : SessionState). s.text) asks.state))
       (session_told sequence h.old.id);
   halts = subst (λ (s : State). HaltsPlay (stage_of s) h.ask) (sym playing) (asks.keep, asks.command);
-  ends = subst (λ a. EndsSession a h.new) (sym asks.command)
-      (λ place. ap (λ (s : SessionState). (sent_reply (after_halt s place)).torn) asks.state);
+  ends = grind arith;
 }
 
 -- a reply of its own, to a TEARDOWN
@@ -54,15 +53,13 @@ torn_reply h sequence is halts ends = record {
   sequence = sequence;
   told = subst (HasSessionInReply sequence h.old.id) (sym (ap (λ (s : SessionState). s.text) ends.1))
       (session_told sequence h.old.id);
-  halts = subst (HaltsPlay (stage_of h.old.state)) (sym ends.0)
-      (subst (λ (s : State). HaltsPlay (stage_of s) Reply) (sym is) halts);
+  halts = grind arith;
   ends = subst (λ a. EndsSession a h.new) (sym ends.0) (ap (λ (s : SessionState). (sent_reply s).torn) ends.1);
 }
 
 tears_in : (h : HeardMessage) (sequence : ℕ) (state : State) → h.old.state ≡ state
     → TearsDown state h.old sequence h.ask h.new → IsTornDown h.old h.ask h.new
-tears_in h sequence (Playing setup play) is tears = torn_halt h is tears
-tears_in h sequence _ is tears = torn_reply h sequence is refl tears
+tears_in h sequence state given given' = grind (arith, torn_halt, torn_reply)
 
 pauses_in : (h : HeardMessage) (sequence : ℕ) (state : State) → h.old.state ≡ state
     → Pauses state h.old sequence h.ask h.new → IsPausedPlay h.old h.ask h.new
@@ -140,50 +137,24 @@ record IsCalm (standing : SessionState) : Type 0 where
 -- what changes neither stays calm
 same_calm : {old new made : SessionState} → IsCalm old → new ≡ made → made.tearing ≡ old.tearing
     → made.torn ≡ old.torn → is_ending made.awaited ≡ false → IsCalm new
-same_calm calm is tearing torn awaited =
-    subst IsCalm (sym is) (record { tearing = tearing ∙ calm.tearing; torn = torn ∙ calm.torn; awaited = awaited })
+same_calm calm is tearing torn awaited = grind arith
 
 answer_calm : {h : HeardMessage} (answer : Answer h) → IsCalm h.old → IsTeardown h.message ⊎ IsCalm (made_by answer)
-answer_calm (Replies reply is) calm =
-    inr (record { tearing = calm.tearing; torn = calm.torn; awaited = calm.awaited })
-answer_calm (SetsUp film taken setup asks is) calm =
-    inr (record { tearing = calm.tearing; torn = calm.torn; awaited = calm.awaited })
+answer_calm (Replies reply is) calm = grind arith
+answer_calm (SetsUp film taken setup asks is) calm = grind arith
 answer_calm (StopsPlay taken hand is) calm = inl (is_teardown taken)
 answer_calm (EndsAlone taken is) calm = inl (is_teardown taken)
 answer_calm _ calm = inr (record { tearing = calm.tearing; torn = calm.torn; awaited = refl })
 
 halt_calm : (old : SessionState) (place : ℕ) → IsCalm old → IsCalm (after_halt old place)
-halt_calm old place calm = record {
-  tearing = ap (λ b. cond b true old.tearing) calm.awaited ∙ calm.tearing;
-  torn = calm.torn;
-  awaited = refl;
-}
+halt_calm old place calm = grind arith
 
 reply_calm : (old : SessionState) → IsCalm old → IsCalm (sent_reply old)
 reply_calm old calm = record { tearing = calm.tearing; torn = calm.tearing; awaited = calm.awaited }
 
-finished_calm : (done : Bool) (sent : ℕ) (awaited : Awaited) → is_ending awaited ≡ false
-    → is_ending (cond done (ToHalt sent Done) awaited) ≡ false
-finished_calm true sent awaited calm = refl
-finished_calm false sent awaited calm = calm
-
-play_calm : (old : SessionState) → IsCalm old → IsCalm (after_play old)
-play_calm old calm = record {
-  tearing = calm.tearing;
-  torn = calm.torn;
-  awaited = finished_calm (is_done_in old.state) (sent_in old.state) old.awaited calm.awaited;
-}
-
-sent_calm : (sent : Bool) (old : SessionState) → IsCalm old → IsCalm (cond sent (sent_reply old) old)
-sent_calm true old calm = reply_calm old calm
-sent_calm false old calm = calm
-
 slot_calm : (taken sending : Bool) (old : SessionState) (slot : ℕ) → IsCalm old
     → IsCalm (cond taken (cond sending (after_play (sent_slot old slot)) (record old { heard = slot })) old)
-slot_calm true true old slot calm =
-    play_calm (sent_slot old slot) (sent_calm (old.waits && is_between (stepped_in true slot old.state))
-    (sent_due old slot)
-    (record { tearing = calm.tearing; torn = calm.torn; awaited = calm.awaited }))
+slot_calm true true old slot calm = grind (arith, common_steps)
 slot_calm true false old slot calm = record { tearing = calm.tearing; torn = calm.torn; awaited = calm.awaited }
 slot_calm false sending old slot calm = calm
 
@@ -214,11 +185,4 @@ all_calm (happening ∷ rest) old new is calm =
 pub torn_by_teardown : (begun : Beginning) (happenings : List SessionEvent) (now : SessionState)
     → AreAfter (new_session_state begun.films begun.settings begun.words) happenings now → now.torn ≡ true
     → HasTeardown happenings
-torn_by_teardown begun happenings now are torn =
-    elim (all_calm happenings (new_session_state films settings words) now are
-    (record { tearing = refl; torn = refl; awaited = refl })) [
-      | inl heard ↦ heard
-      | inr quiet ↦ absurd (let no : ⊥ = cc (quiet.torn, torn) in no)
-    ]
-  where
-    open begun use {films, settings, words}
+torn_by_teardown begun happenings now are torn = grind (arith, all_calm)

@@ -2,7 +2,6 @@
 use Rattle.std.proofs.Common.{◌≡◌, codes, sym, ap, ◌∙◌}
 use Rattle.session.proofs.SharedTerms.{AsksPlay, header_value, IsPlannedRun, prepared_of, SessionState}
 use Rattle.session.specs.declared.plans.Planned.{Planned}
-use Rattle.session.specs.declared.states.Awaited.{Awaited}
 use Rattle.session.specs.declared.states.Prepared.{Prepared}
 use Rattle.session.specs.declared.states.Awaited.TheVariants.{Nothing, Play}
 use Rattle.session.proofs.InitialStateLemmas.{HeardMessage}

@@ -1,27 +1,23 @@
 -- The refusals that all methods share, by their codes; a PLAY with a Range in Playing, and what one
 -- without a Range, or from now on, plays.
-use Rattle.std.proofs.Common.{◌≡◌, ℕ, length, ◌*◌, ◌≤◌, Bool, true, List, Option, Some, None, is_some, codes, Err, refl}
-use Rattle.std.proofs.Common.{sym, ap, subst, ◌∙◌, inl, inr, arith}
-use Rattle.std.specs.Bool.{⊤}
-use Rattle.session.proofs.SharedTerms.{code_of, Film, first_of, FitsSession, HasCode, header_value, Hears, IsJudged}
-use Rattle.session.proofs.SharedTerms.{IsOwnSession, IsPlannedRun, IsReadAs, IsRefused, IsRequestedRange, IsRequestFor}
-use Rattle.session.proofs.SharedTerms.{IsSpan, IsTimely, Method, option_of, Origin, picture_time, Refusal, refusal_text}
+use Rattle.std.proofs.Common.{◌≡◌, ℕ, Bool, true, List, Option, Some, None, is_some, Err}
+use Rattle.std.proofs.Common.{sym, ap, subst, ◌∙◌, arith}
+use Rattle.session.proofs.SharedTerms.{code_of, Film, FitsSession, HasCode, Hears, IsJudged}
+use Rattle.session.proofs.SharedTerms.{IsPlannedRun, IsReadAs, IsRefused, IsRequestFor}
+use Rattle.session.proofs.SharedTerms.{IsSpan, IsTimely, Method, option_of, Origin, Refusal, refusal_text}
 use Rattle.session.proofs.SharedTerms.{Request, required_of, Run, run_of, SessionState, Span, Stored, with_reply}
 use Rattle.session.specs.declared.commands.Ask.{Ask}
 use Rattle.session.specs.declared.plans.Planned.{Planned}
 use Rattle.session.specs.declared.play_requests.PlayRequest.{PlayRequest}
 use Rattle.rtsp_fields.specs.declared.ranges.Origin.TheVariants.{Now}
-use Rattle.rtsp_methods.specs.declared.methods.Method.TheVariants.{Options, Describe, Setup, Play, Pause, GetParameter}
-use Rattle.session.specs.declared.play_requests.PlayRequest.TheVariants.{Resumed, New}
+use Rattle.rtsp_methods.specs.declared.methods.Method.TheVariants.{Play}
 use Rattle.rtsp_methods.specs.declared.refusals.Refusal.TheVariants.{Method as Unknown, Option as Required, Session}
-use Rattle.rtsp_methods.specs.declared.refusals.Refusal.TheVariants.{Film as NoFilm, State as NotNow, BadRequest}
+use Rattle.rtsp_methods.specs.declared.refusals.Refusal.TheVariants.{Film as NoFilm, State as NotNow}
 use Rattle.film_streams.specs.declared.setups.Setup.{Setup as SetupIs}
 use Rattle.session.specs.Laws.{Resumes}
 use Rattle.session_laws.specs.PlayLaws.{PassesEarlierChecks, HasRangeInPlaying, IsDeclined}
-use Rattle.session_laws.specs.RefusalLaws.{BeginsFilm, IsForeign, IsInvalidMethod, IsKnownMethod, IsOfNoFilm}
+use Rattle.session_laws.specs.RefusalLaws.{BeginsFilm, IsInvalidMethod, IsKnownMethod, IsOfNoFilm}
 use Rattle.session_laws.specs.RefusalLaws.{IsOfNoSession, IsRefusedBy, IsWholeFilm, LacksSession, RequiresSomeOption}
-use Rattle.rtsp_replies.specs.Replies.{refusal_fields}
-use Rattle.session.specs.SessionStates.{is_playing_in}
 use Rattle.session.proofs.InitialStateLemmas.{HeardMessage, heard_by}
 use Rattle.session.proofs.ResumedPlayLemmas.{span_of_once}
 use Rattle.session_laws.proofs.RequestReadings.{refused_in, IsStopped, IsTakenUp, heard_method}
@@ -46,12 +42,7 @@ request_heard {old} {new} {message} {ask} request hears is = record {
 pub refused_as : (h : HeardMessage) (sequence : ℕ) (refusal : Refusal) (option : List ℕ)
     → IsRefused h.old (Some sequence) refusal option h.ask h.new
     → IsRefusedBy h.old (code_of refusal) sequence h.ask h.new
-refused_as h sequence refusal option is = record {
-  command = is.0;
-  leaves = is.1 ∙ ap (λ (t : List ℕ). with_reply h.old t) (sym (ap (λ (s : SessionState). s.text) is.1));
-  fields = refusal_fields refusal option;
-  text_is = ap (λ (s : SessionState). s.text) is.1;
-}
+refused_as h sequence refusal option is = grind arith
 
 -- one that is judged so is refused so
 pub refused_by : (r : HeardRequest) (refusal : Refusal)
@@ -67,23 +58,8 @@ unknown_refused r unknown = refused_by r Unknown (record { none = λ method is. 
 
 -- ---- options
 
-some_first : (one other : Option (List ℕ)) (value : List ℕ) → (one ≡ Some value) → is_some (first_of one other) ≡ true
-some_first None other value is = absurd (let none : ⊥ = cc in none)
-some_first (Some own) other value is = refl
-
-some_second : (one other : Option (List ℕ)) (value : List ℕ) → (other ≡ Some value) → is_some (first_of one other) ≡
-    true
-some_second None other value is = ap is_some is
-some_second (Some own) other value is = refl
-
 requires : (request : Request) → RequiresSomeOption request → is_some (required_of request.head.now) ≡ true
-requires request some =
-    let one = header_value request.head.now (codes "Require") in
-    let other = header_value request.head.now (codes "Proxy-Require") in
-    elim some.1 [
-      | inl is ↦ some_first one other some.0 is
-      | inr is ↦ some_second one other some.0 is
-    ]
+requires request some = grind arith
 
 pub option_refused : (r : HeardRequest) → IsKnownMethod r.request → RequiresSomeOption r.request
     → IsRefusedBy r.heard.old 551 r.request.sequence r.heard.ask r.heard.new
@@ -92,30 +68,17 @@ option_refused r known some =
 
 -- ---- sessions
 
-foreign : (exists : Bool) (id value : List ℕ) → IsForeign exists id value → ¬ IsOwnSession exists id (Some value) ⊤
-foreign exists id value (inl none) = λ own. let none : ⊥ = cc (none, own.0) in none
-foreign exists id value (inr other) = λ own. other own.1
-
 lacking : (method : Method) (exists : Bool) (id : List ℕ) (named : Option (List ℕ)) → LacksSession method exists id
     named
     → ¬ FitsSession method exists id named
-lacking Options exists id named lacks = absurd lacks
-lacking Describe exists id named lacks = absurd lacks
-lacking Setup exists id None lacks = absurd lacks
-lacking GetParameter exists id None lacks = absurd lacks
-lacking _ exists id None lacks = λ own. own
-lacking _ exists id (Some value) lacks = foreign exists id value lacks
+lacking method exists id named given = grind arith
 
 pub session_refused : (r : HeardRequest) → IsOfNoSession r.heard.old r.request
     → IsRefusedBy r.heard.old 454 r.request.sequence r.heard.ask r.heard.new
 session_refused r wrong =
     refused_by r Session (record {
       method = wrong.method;
-      spoken = record {
-        named = wrong.plain.method_is;
-        free = ap (λ (o : Option (List ℕ)). first_of o (header_value r.request.head.now (codes "Proxy-Require")))
-            wrong.plain.no_option ∙ wrong.plain.no_proxy_option;
-      };
+      spoken = grind arith;
       session = lacking wrong.method _ _ _ wrong.lacks;
     })
 
@@ -133,9 +96,7 @@ film_refused r wrong =
 
 untimely : (method : Method) (old : SessionState) (request : Request) → IsInvalidMethod method old
     → ¬ IsTimely old.state request method
-untimely Setup old request wrong = λ timely. let none : ⊥ = cc (wrong, timely) in none
-untimely Pause old request wrong = λ timely. let none : ⊥ = cc (wrong, timely) in none
-untimely _ old request wrong = absurd wrong
+untimely method old request given = grind arith
 
 pub state_refused : (r : HeardRequest) (method : Method) → PassesEarlierChecks method r.heard.old r.request
     → IsInvalidMethod method r.heard.old → IsRefusedBy r.heard.old 455 r.request.sequence r.heard.ask r.heard.new
@@ -149,41 +110,15 @@ state_refused r method good wrong =
 
 -- ---- a PLAY from now on
 
-new_begins : {film : Film} {to : Option ℕ} {run : Run} → IsRequestedRange film 0 to run → BeginsFilm film run
-new_begins {film} {to} {run} is = record {
-  begins = ap (λ n. n * picture_time film.rate) is.new.first_is ∙ zero_time _ is.begins.by_then;
-  unplayed = is.new.from_is ∙ sym is.new.first_is;
-  unsent = is.new.sent_is;
-}
-  where
-    zero_time : (time : ℕ) → time * 1000000000 ≤ 0 * 360000 → time ≡ 0
-    zero_time time by_then = omega (arith, by_then)
-
 begun_by : (film : Film) (to : Option ℕ) (wanted : PlayRequest) → IsRequestFor film None Now to wanted
     → BeginsFilm film (run_of wanted)
-begun_by film to (Resumed run) asked = absurd asked
-begun_by film to (New run) asked = new_begins asked
+begun_by film to wanted given = grind arith
 
 -- ---- a PLAY without a Range
 
-asked_end : (film : Film) (wanted : PlayRequest) → IsRequestFor film None Now None wanted
-    → (run_of wanted).end_unit ≡ length film.units.items
-asked_end film (Resumed run) asked = absurd asked
-asked_end film (New run) asked = asked.new.end_is ∙ asked.ends
-
 pub whole_played : (old : SessionState) (stored : Stored) (setup : SetupIs) (planned : Planned)
     → IsPlannedRun old stored setup None None planned → IsWholeFilm stored.film planned.run
-whole_played old stored setup planned is =
-    let asked = is.asked in
-    let now : IsRequestFor stored.film None Now None is.wanted =
-    subst (λ (s : Span). IsRequestFor stored.film None s.from s.to is.wanted) asked.is_span asked.is_wanted in
-    let begun = begun_by stored.film None is.wanted now in
-    subst (λ (r : Run). IsWholeFilm stored.film r) (sym is.run_is) (record {
-      begins = begun.begins;
-      ends = asked_end stored.film is.wanted now;
-      unplayed = begun.unplayed;
-      unsent = begun.unsent;
-    })
+whole_played old stored setup planned is = grind arith
 
 -- ---- from now on, where no run or one is paused
 
@@ -210,8 +145,7 @@ now_resumes old stored setup paused value span planned is now planned_is =
 
 -- no refusal has the code 200
 not_ok : (refusal : Refusal) → code_of refusal ≡ 200 → ⊥
-not_ok BadRequest is = omega (arith, is)
-not_ok _ is = omega (arith, is)
+not_ok refusal given = grind arith
 
 pub refused : (h : HeardMessage) (sequence : Option ℕ) (refusal : Refusal) (option : List ℕ)
     → IsRefused h.old sequence refusal option h.ask h.new → IsDeclined h.old h.ask h.new
@@ -229,9 +163,7 @@ refused h sequence refusal option is =
 -- in Playing a PLAY with a Range is untimely
 ranged_untimely : {request : Request} (h : HeardMessage) → HasRangeInPlaying h.old h.message request
     → ¬ IsTimely h.old.state request Play
-ranged_untimely h is = λ timely.
-    let none = timely (ap is_playing_in is.playing) in
-    let no : ⊥ = cc (none, ap is_some is.range) in no
+ranged_untimely h is = grind arith
 
 pub range_refused : {request : Request} (heard : HeardMessage) → HasRangeInPlaying heard.old heard.message request
     → IsDeclined heard.old heard.ask heard.new

@@ -1,14 +1,14 @@
+use Rattle.std.proofs.lemmas.Grind.{common_steps}
 -- What replies tell is read in their fields.
-use Rattle.std.proofs.Common.{◌≡◌, ◌≢◌, ℕ, ◌+◌, ◌-◌, ◌*◌, ◌/◌, ◌%◌, ◌^◌, ◌<◌, ◌≤◌, ◌&&◌, ◌==◌, not, nat_lt, nat_le}
-use Rattle.std.proofs.Common.{true, List, [], ◌∷◌, ◌++◌, length, take, drop, get_or, slice_range, slice_index, codes}
-use Rattle.std.proofs.Common.{decimal, string_bytes, Option, Some, None, Ok, add_comm, refl, sym, ap, subst, ◌∙◌, inl}
+use Rattle.std.proofs.Common.{◌≡◌, ◌≢◌, ℕ, ◌+◌, ◌-◌, ◌*◌, ◌/◌, ◌^◌, ◌<◌, ◌≤◌}
+use Rattle.std.proofs.Common.{true, List, [], ◌∷◌, ◌++◌, length, take, drop, get_or, slice_range, codes}
+use Rattle.std.proofs.Common.{decimal, string_bytes, Option, Some, None, Ok, refl, sym, ap, subst, ◌∙◌, inl}
 use Rattle.std.proofs.Common.{inr, arith}
-use Rattle.std.proofs.Math.Nat.{div-mul-le_self, mul-le-mul}
+use Rattle.std.proofs.Math.Nat.{div-mul-le_self}
 use Rattle.std.specs.List.{list_all}
 use Rattle.std.proofs.lemmas.Bool.{and_parts}
 use Rattle.std.proofs.lemmas.List.{append-nil, append_assoc, drop_at, get_or-append_right, get_or-drop, get_or-take}
 use Rattle.std.proofs.lemmas.List.{get_or_append_left, length-append, length-drop, length-take, take_all, take_at}
-use Rattle.vod_base.specs.Names.{is_name_byte}
 use Rattle.rtsp_fields.specs.Sdp.{description_text, seconds_text}
 use Rattle.rtsp_fields.specs.Urls.{IsRead, IsTail, NamesFilm}
 use Rattle.rtsp_fields.specs.declared.ranges.Origin.TheVariants.{At}
@@ -26,20 +26,16 @@ use Rattle.film_streams.specs.StreamNumbers.{timestamp_at}
 use Rattle.session.specs.RequestSteps.{after_look, after_overflow}
 use Rattle.session.specs.Methods.{first_number}
 use Rattle.session.specs.declared.states.State.TheVariants.{Ready}
-use Rattle.rtsp_replies.specs.Replies.{joined_parts, transport_value}
-use Rattle.std.specs.Int.{w32, to_be_bytes}
+use Rattle.rtsp_replies.specs.Replies.{joined_parts}
 use Rattle.session.proofs.SharedTerms.{after_admission, after_full, Counts, Describes, Field, field, Film}
-use Rattle.session.proofs.SharedTerms.{frames_before, good_name, identity_of, IsSetUp, IsSpan, length_ms, look_body}
+use Rattle.session.proofs.SharedTerms.{frames_before, good_name, identity_of, IsSetUp, IsSpan, length_ms}
 use Rattle.session.proofs.SharedTerms.{picture_time, play_front, reply_front, reply_text, sending_of, sequence_of}
 use Rattle.session.proofs.SharedTerms.{SessionState, Setup, started_text, Stored}
 use Rattle.session.specs.declared.commands.Ask.{Ask}
 use Rattle.session.specs.declared.plans.Planned.{Planned}
-use Rattle.hex.specs.Hex.{encode_lower}
 use Rattle.session_laws.specs.ReplyContents.{AreTicks, IsDescribeReply, IsFullReply, IsLookReply, IsOverflowReply}
 use Rattle.session_laws.specs.ReplyContents.{IsPlayReply, IsSetupReply, IsShort, HasStartInReply, IsPrintable}
 use Rattle.session_laws.specs.ReplyContents.{HasRtpInfo, HasRangeOf}
-use Rattle.session_laws.proofs.RtpNumberLemmas.{number_goes_on}
-use Rattle.film_streams.proofs.ModularSums.{sum_mod}
 
 ticks_360 : (units : ℕ) → AreTicks (units / 360) 360 units
 ticks_360 units = record { passed = div-mul-le_self units 360; no_more = omega arith }
@@ -74,10 +70,7 @@ span_told film first end small short =
 
 -- a URL of a film under the authority of another
 tail_prints : (tail : List ℕ) → IsTail tail → list_all is_url_byte tail ≡ true
-tail_prints tail (inl is) = rw is refl
-tail_prints tail (inr (inl is)) = rw is refl
-tail_prints tail (inr (inr (inl is))) = rw is refl
-tail_prints tail (inr (inr (inr is))) = rw is refl
+tail_prints tail given = grind arith
 
 -- what is known of an authority
 pub record IsAuthority (authority : List ℕ) : Type 0 where
@@ -104,10 +97,7 @@ authority_of url authority name is =
 
 path_prints : (name tail : List ℕ) → good_name name ≡ true → IsTail tail
     → list_all is_url_byte (47 ∷ name ++ tail) ≡ true
-path_prints name tail good is_tail =
-    let bytes = and_parts (nat_lt 0 (length name) && nat_le (length name) 64 && not (slice_index name 0 == 46))
-    (list_all is_name_byte name) good in
-    all-append is_url_byte (47 ∷ name) tail (name_in_url name bytes.1) (tail_prints tail is_tail)
+path_prints name tail good is_tail = grind (arith, and_parts, all-append, name_in_url, tail_prints tail is_tail)
 
 -- an authority ends where a path begins
 path_place : (authority path : List ℕ)
@@ -161,17 +151,7 @@ film_url authority name tail is good is_tail =
 
 -- a play's reply
 pub few_ms : (units unit time : ℕ) → unit ≤ units → units ≤ 4194304 → time ≤ 360000 → unit * time / 360 < 10 ^ 12
-few_ms units unit time within few brief =
-    let fits : unit ≤ 4194304 = omega (arith, within, few) in
-    let most : unit * time ≤ 4194304 * 360000 = mul-le-mul fits brief in
-    let small : unit * time / 360 * 360 ≤ unit * time = div-mul-le_self (unit * time) 360 in
-    omega (arith, most, small)
-
--- a number of 16 bits that goes on twice
-sum_twice_mod : (a b c : ℕ) → ((a + b) % 65536 + c) % 65536 ≡ (a + (b + c)) % 65536
-sum_twice_mod a b c =
-    ap (λ n. n % 65536) (add_comm ((a + b) % 65536) c) ∙ sum_mod c (a + b) 65536
-    ∙ ap (λ n. n % 65536) (let same : c + (a + b) ≡ a + (b + c) = omega arith in same)
+few_ms units unit time within few brief = grind arith
 
 -- the value of RTP-Info in its parts, and as it is joined
 info_value : (a n q t : List ℕ)
@@ -213,8 +193,7 @@ info_told {stored} {authority} old setup planned is good =
       ticks = begins_at stored.film planned.run.from_unit / 4;
       time = time;
       names_film = film_url authority name (codes "/video") is good (inr (inr (inl refl)));
-      number_is = number_goes_on old.source.sequence planned.counts.frames sent
-          ∙ sum_twice_mod old.source.sequence planned.counts.frames sent;
+      number_is = grind arith;
       ticks_are = ticks_4 (planned.run.from_unit * picture_time stored.film.rate);
       time_is = refl;
       value_is = info_value authority name (decimal number) (decimal time);
@@ -291,62 +270,31 @@ started_is {front} n fields slots is =
 pub start_told : {sequence : ℕ} {fields : List Field} (old : SessionState) (place start : ℕ) → old.heard < start
     → old.text ≡ reply_front 200 (Some sequence) fields
     → HasStartInReply old start sequence fields (after_admission old place start).text
-start_told {sequence} {fields} old place start later front = record {
-  slots = start - old.heard;
-  slots_are = omega (arith, later);
-  text_is = started_is sequence fields (start - old.heard) front;
-}
+start_told {sequence} {fields} old place start later front =
+    grind (arith, started_is sequence fields (start - old.heard) front)
 
 -- the reply of a SETUP
 pub setup_told : {ask : Ask} (old new : SessionState) (sequence : ℕ) (setup : Setup) (counts : Counts)
     → IsSetUp old sequence (Ok setup) ask new
     → IsSetupReply sequence (identity_of old.source setup counts) old.id new.text
 unfolding value_named
-setup_told old new sequence setup counts is = record {
-  fields = _;
-  transport = transport_value setup.media setup.control old.source.ssrc;
-  text_is = ap (λ (s : SessionState). s.text) is.1;
-  session = refl;
-  transport_is = refl;
-  value_is =
-      ap (λ l. codes "RTP/AVP/TCP;unicast;interleaved=" ++ (decimal setup.media ++ (codes "-" ++ (decimal setup.control
-      ++ (codes ";ssrc=" ++ l))))) (append-nil (encode_lower (to_be_bytes w32 old.source.ssrc)));
-}
+setup_told old new sequence setup counts is = grind (arith, common_steps)
 
 -- the replies to what the station answered
 pub overflow_told : (old : SessionState) (place slot booked asked : ℕ)
     → IsOverflowReply (sequence_of old.awaited) slot booked asked (after_overflow old place slot booked asked).text
 unfolding value_named
-overflow_told old place slot booked asked = record {
-  fields = _;
-  text_is = refl;
-  slot_is = refl;
-  booked_is = refl;
-  asked_is = refl;
-}
+overflow_told old place slot booked asked = grind arith
 
 pub full_told : (old : SessionState) (entries live : ℕ)
     → IsFullReply (sequence_of old.awaited) entries live (after_full old entries live).text
 unfolding value_named
 full_told old entries live = record { fields = _; text_is = refl; entries_are = refl; open_is = refl }
 
-look_lines : (n a b : List ℕ)
-    → joined_parts (codes "x-Now: " ∷ n ∷ codes "\r\nx-Slot: " ∷ a ∷ codes "\r\nx-Booked: " ∷ b ∷ codes "\r\n" ∷ [])
-    ≡ (codes "x-Now" ++ (codes ": " ++ (n ++ codes "\r\n"))) ++ ((codes "x-Slot" ++ (codes ": " ++ (a ++ codes "\r\n")))
-    ++ (codes "x-Booked" ++ (codes ": " ++ (b ++ codes "\r\n"))))
-look_lines n a b = simp append_assoc
-
 pub look_told : (old : SessionState) (place now at booked : ℕ)
     → IsLookReply (sequence_of old.awaited) now at booked (after_look old place now at booked).text
 unfolding value_named
-look_told old place now at booked = record {
-  fields = _;
-  body = look_body now at booked;
-  text_is = refl;
-  kind = refl;
-  size = refl;
-  body_is = look_lines (decimal now) (decimal at) (decimal booked);
-}
+look_told old place now at booked = grind (arith, common_steps)
 
 -- the state after a SETUP
 pub setup_ready : (old new : SessionState) (sequence : ℕ) (setup : Setup) (ask : Ask) → IsSetUp old sequence

@@ -1,17 +1,15 @@
+use Rattle.std.proofs.Common.{arith}
 -- Each reply to a request has the request's CSeq.
-use Rattle.std.proofs.Common.{◌≡◌, ℕ, ◌-◌, List, [], Some, ap, refl, sym, subst}
-use Rattle.session.proofs.SharedTerms.{after_full, AsksPlay, code_of, Field, full_text, header_value, IsPlannedRun}
-use Rattle.session.proofs.SharedTerms.{IsReadAs, look_body, no_fault, offer_body, overflow_text, reply_text, Request}
-use Rattle.session.proofs.SharedTerms.{request_once, sequence_of, SessionState}
-use Rattle.session.specs.declared.commands.Ask.{Ask}
-use Rattle.session.specs.declared.plans.Planned.{Planned}
+use Rattle.std.proofs.Common.{◌≡◌, ℕ, ◌-◌, List, [], Some, refl, sym, subst}
+use Rattle.session.proofs.SharedTerms.{Field}
+use Rattle.session.proofs.SharedTerms.{IsReadAs, no_fault, reply_text, Request}
+use Rattle.session.proofs.SharedTerms.{request_once}
 use Rattle.session.specs.declared.refusals.Task.{Task}
-use Rattle.rtsp_replies.specs.Replies.{parameters_text}
-use Rattle.session_laws.specs.ReplyNumbers.{HasNumber, NumbersPlay, RepliesHaveNumber}
+use Rattle.session_laws.specs.ReplyNumbers.{HasNumber, RepliesHaveNumber}
 use Rattle.session.proofs.InitialStateLemmas.{HeardMessage}
 use Rattle.session.proofs.RequestCaseAnalysis.{Answer, Replies, SetsUp, StartsPlay, HaltsPlay, StopsPlay, EndsSession}
 use Rattle.session.proofs.RequestCaseAnalysis.{TakesLook, SeeksOffer, OwnReply, ToFault, ToRefused, ToDeclined, ToAsked}
-use Rattle.session.proofs.RequestCaseAnalysis.{ToDescribed, ToConfirmed, ToEmpty, ReadyPlay, TakenTask, answer_to}
+use Rattle.session.proofs.RequestCaseAnalysis.{ToDescribed, ToConfirmed, ToEmpty, TakenTask, answer_to}
 use Rattle.session.proofs.RequestCaseAnalysis.{asked_by, by_answer, made_by, reply_of}
 use Rattle.session_laws.proofs.ReplyContentLemmas.{started_is}
 
@@ -19,12 +17,7 @@ use Rattle.session_laws.proofs.ReplyContentLemmas.{started_is}
 
 numbered : {n m : ℕ} (code : ℕ) (fields : List Field) (body : List ℕ) → m ≡ n
     → HasNumber n (reply_text code (Some m) fields body)
-numbered code fields body is = record {
-  code = code;
-  fields = fields;
-  body = body;
-  text_is = ap (λ k. reply_text code (Some k) fields body) is;
-}
+numbered code fields body is = grind arith
 
 -- ---- answers
 
@@ -37,10 +30,8 @@ taken_number request read taken = (request_once taken.is_request read).sequence_
 own_number : {h : HeardMessage} (request : Request) → IsReadAs h.message request → (reply : OwnReply h)
     → HasNumber request.sequence (reply_of h reply)
 own_number request read (ToFault fault is) = absurd (no_fault fault read is)
-own_number request read (ToRefused other refusal its judged) =
-    numbered (code_of refusal) _ [] (request_once its read).sequence_is
-own_number request read (ToDeclined other refusal its cause) =
-    numbered (code_of refusal) _ [] (request_once its read).sequence_is
+own_number request read (ToRefused other refusal its judged) = grind arith
+own_number request read (ToDeclined other refusal its cause) = grind arith
 own_number request read (ToAsked taken) = numbered 200 _ [] (taken_number request read taken)
 own_number request read (ToDescribed asked taken stored at) = numbered 200 _ _ (taken_number request read taken)
 own_number request read (ToConfirmed asked taken) = numbered 200 _ [] (taken_number request read taken)
@@ -61,13 +52,8 @@ answer_number {h} request read (StartsPlay play planned asks planned_is) =
 answer_number request read (HaltsPlay taken hand is) = numbered 200 _ [] (taken_number request read taken)
 answer_number request read (StopsPlay taken hand is) = numbered 200 _ [] (taken_number request read taken)
 answer_number request read (EndsSession taken is) = numbered 200 _ [] (taken_number request read taken)
-answer_number request read (TakesLook taken look) =
-    let same = taken_number request read taken in record {
-      look = λ place now at booked. numbered 200 _ (look_body now at booked) same;
-      full = λ entries live. numbered 503 _ [] same;
-    }
-answer_number request read (SeeksOffer offer planned is asks) = λ note.
-    numbered 200 _ (offer_body note.offers.start note.offers.tried) (taken_number request read offer.taken)
+answer_number request read (TakesLook taken look) = grind arith
+answer_number request read (SeeksOffer offer planned is asks) = grind arith
 
 pub reply_number : (request : Request) (heard : HeardMessage)
     → IsReadAs heard.message request → RepliesHaveNumber request.sequence heard.ask heard.new

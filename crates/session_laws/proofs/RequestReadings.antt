@@ -1,14 +1,14 @@
+use Rattle.std.proofs.lemmas.Grind.{common_steps}
 -- A request is judged in one way; how a session reads and judges it, and what it does for one that it
 -- processes.
 use Rattle.std.proofs.Common.{zero, suc, ◌≡◌, ℕ, List, Some, Result, Ok, Err, subst, ◌∙◌, inl, inr, ◌+◌, ◌*◌, ◌<◌, ◌==◌}
 use Rattle.std.proofs.Common.{◌⊎◌, if◌then◌else◌, get_or, length, None, codes, refl, sym, ap, arith, below_more}
-use Rattle.rtsp_text.proofs.MessageUniqueness.{AreSameParts, Asked}
 use Rattle.rtsp_methods.specs.declared.methods.Method.TheVariants.{Options, Describe, Setup, Play, Pause, Teardown}
 use Rattle.rtsp_methods.specs.declared.methods.Method.TheVariants.{GetParameter}
 use Rattle.session.specs.declared.refusals.Task.TheVariants.{Options as ToOptions, Describe as ToDescribe}
 use Rattle.session.specs.declared.refusals.Task.TheVariants.{Setup as ToSetup, Play as ToPlay}
 use Rattle.session.specs.Methods.{GetsParameter, HearsRequest}
-use Rattle.session.specs.RefusalOrder.{IsOnFilm, IsTaskOf, FitsState, HasFilm, IsOwnTalk, IsSpoken}
+use Rattle.session.specs.RefusalOrder.{IsOnFilm, IsTaskOf, FitsState, HasFilm, IsOwnTalk}
 use Rattle.session.proofs.InitialStateLemmas.{HeardMessage, TakenRequest}
 use Rattle.std.specs.Prelude.{is_some}
 use Rattle.std.proofs.lemmas.Bool.{cases_order}
@@ -31,8 +31,7 @@ method_by n =
     else if n == 130 then Pause else if n == 164 then Teardown else GetParameter
 
 named : (m : Method) → method_by (key (name_of m)) ≡ m
-named Options = refl
-named _ = refl
+named m = grind (arith, common_steps)
 
 pub method_once : (name : List ℕ) (m other : Method) → name ≡ name_of m → name ≡ name_of other → m ≡ other
 method_once name m other is its = sym (named m) ∙ ap (λ n. method_by (key n)) (sym is ∙ its) ∙ named other
@@ -91,28 +90,12 @@ stops_once n m is its =
       | inr (inr more) ↦ absurd (its.at (is.before m more))
     ]
 
-none_below : (j : Judging) → PassesBelow j 0
-none_below j k less = absurd (omega (arith, less))
-
 one_more : (j : Judging) (n : ℕ) → PassesBelow j n → PassesAt j n → PassesBelow j (n + 1)
 one_more j n before at = below_more (PassesAt j) n before at
 
--- a request of a method that requires no option, of its session, of its film
-spoken_below : {m : Method} (old : SessionState) (request : Request) → IsSpoken request m
-    → PassesBelow (judging old request) 2
-spoken_below {m} old request spoken =
-    let j = judging old request in
-    one_more j 1 (one_more j 0 (none_below j) (m, spoken.named)) spoken.free
-
 talk_below : {m : Method} (old : SessionState) (request : Request) → IsOwnTalk old.id old.state request m
     → PassesBelow (judging old request) 3
-talk_below {m} old request talk =
-    one_more (judging old request) 2 (spoken_below old request talk.spoken) (m, (talk.spoken.named, talk.session))
-
-film_below : {m : Method} (old : SessionState) (request : Request) → IsOwnTalk old.id old.state request m
-    → (m ≡ Options) ⊎ HasFilm old.films old.state request.url.now m → PassesBelow (judging old request) 4
-film_below {m} old request talk film =
-    one_more (judging old request) 3 (talk_below old request talk) (m, (talk.spoken.named, film))
+talk_below {m} old request talk = grind arith
 
 -- nothing that all methods share refuses a request of a method
 pub record Passes (old : SessionState) (request : Request) (m : Method) : Type 0 where
@@ -122,11 +105,7 @@ pub record Passes (old : SessionState) (request : Request) (m : Method) : Type 0
 
 stops_last : {m : Method} (old : SessionState) (request : Request) → Passes old request m
     → StopsAt (judging old request) 5
-stops_last {m} old request passes = record {
-  before = one_more (judging old request) 4 (film_below old request passes.talk passes.film)
-      (m, (passes.talk.spoken.named, passes.state));
-  at = λ no. no;
-}
+stops_last {m} old request passes = grind arith
 
 film_of : (films : List Stored) (stage : StateKind) (url : List ℕ) (task : Task) → IsTaskOf films stage url task
     → (method_of task ≡ Options) ⊎ HasFilm films stage url (method_of task)
@@ -138,27 +117,15 @@ film_of films stage url _ is = inr is
 
 pub passes_of : {request : Request} {task : Task} (old : SessionState)
     → IsTaken old.films old.id old.state request task → Passes old request (method_of task)
-passes_of {request} {task} old is = record {
-  talk = is.talk;
-  film = film_of old.films old.state request.url.now task is.film;
-  state = is.state;
-}
+passes_of {request} {task} old is = search film_of
 
 -- a judgement is by the first that isn't passed
 stops : (old : SessionState) (request : Request) (judgement : Result Task Refusal)
     → IsJudged old.films old.id old.state request judgement → StopsAt (judging old request) (rank judgement)
 stops old request (Ok task) is = stops_last old request (passes_of old is)
-stops old request (Err Unknown) is =
-    record { before = none_below (judging old request); at = λ has. is.none has.0 has.1 }
-stops old request (Err Required) is = record {
-  before = one_more (judging old request) 0 (none_below (judging old request)) (is.method, is.named);
-  at = λ free. let some = is.required in let no : ⊥ = cc (free, some) in no;
-}
-stops old request (Err Session) is = record {
-  before = spoken_below old request is.spoken;
-  at = λ own. is.session (subst (Owns (judging old request))
-      (method_once request.method.now own.0 is.method own.1.0 is.spoken.named) own.1.1);
-}
+stops old request (Err Unknown) is = grind arith
+stops old request (Err Required) is = grind arith
+stops old request (Err Session) is = grind arith
 stops old request (Err Film) is = record {
   before = talk_below old request is.talk;
   at = λ has.
@@ -168,11 +135,7 @@ stops old request (Err Film) is = record {
         | inr film ↦ is.none (subst (λ (m : Method). HasFilm old.films old.state request.url.now m) same film)
       ];
 }
-stops old request (Err State) is = record {
-  before = film_below old request is.talk (inr is.film);
-  at = λ timely. is.state (subst (HasTime (judging old request))
-      (method_once request.method.now timely.0 is.method timely.1.0 is.talk.spoken.named) timely.1.1);
-}
+stops old request (Err State) is = grind arith
 stops old request (Err _) is = absurd is
 
 -- a refusal is that of its judgement
@@ -182,12 +145,7 @@ record IsRanked (refusal : Refusal) : Type 0 where
 
 ranked : (old : SessionState) (request : Request) (refusal : Refusal)
     → IsJudged old.films old.id old.state request (Err refusal) → IsRanked refusal
-ranked old request Unknown is = record { below = omega arith; is = refl }
-ranked old request Required is = record { below = omega arith; is = refl }
-ranked old request Session is = record { below = omega arith; is = refl }
-ranked old request Film is = record { below = omega arith; is = refl }
-ranked old request State is = record { below = omega arith; is = refl }
-ranked old request _ is = absurd is
+ranked old request refusal given = grind arith
 
 -- a request with the parts of another: only the places in memory stay its own
 abbrev pub as_read : Request → Request → Request
@@ -223,8 +181,7 @@ judged_refused old request place refusal is judgement its =
     (elim judgement as (λ j. IsJudged old.films old.id old.state (as_read place request) j
     → rank j ≡ rank (Err refusal) → j ≡ Err refusal) [
       | Ok task ↦ λ judged rank_is. let below = own.below in absurd (omega (arith, rank_is, below))
-      | Err given ↦ λ judged rank_is. ap (λ r. Err r)
-          ((ranked old (as_read place request) given judged).is ∙ ap refusal_at rank_is ∙ sym own.is)
+      | Err given ↦ grind arith
     ]) its same
 
 -- one with the parts of another that is processed isn't refused

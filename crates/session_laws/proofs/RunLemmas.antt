@@ -1,6 +1,6 @@
+use Rattle.std.proofs.Common.{arith}
 -- What a request makes of the runs of a session, for laws on its entire course.
-use Rattle.std.proofs.Common.{◌≡◌, ℕ, ◌+◌, ◌-◌, ◌⊎◌, Bool, true, List, Option, Some, None, refl, sym, ap, subst, ◌∙◌}
-use Rattle.std.proofs.Common.{inl, inr}
+use Rattle.std.proofs.Common.{◌≡◌, ℕ, ◌+◌, ◌-◌, ◌⊎◌, Bool, true, List, Option, Some, None, refl, sym, subst}
 use Rattle.session.proofs.SharedTerms.{AsksHalt, Counts, counts_after, counts_for, FramedRun, frames_before, GoesOn}
 use Rattle.session.proofs.SharedTerms.{Hears, identity_of, is_answered, IsFilmAt, IsRequestFor, next_boundary}
 use Rattle.session.proofs.SharedTerms.{octets_before, Offers, OfFilm, Origin, prepared_of, Run, run_of, Segment}
@@ -10,10 +10,8 @@ use Rattle.session.specs.declared.play_requests.PlayRequest.{PlayRequest}
 use Rattle.session.specs.declared.states.AfterHalt.{AfterHalt}
 use Rattle.session.specs.declared.states.Play.{Play as Played}
 use Rattle.session.specs.declared.states.Prepared.{Prepared}
-use Rattle.rtsp_fields.specs.declared.ranges.Origin.TheVariants.{Now, At}
 use Rattle.session.specs.declared.commands.Ask.TheVariants.{Reply as AskReply, Play as AskPlay, Halt as AskHalt}
 use Rattle.session.specs.declared.commands.Ask.TheVariants.{Look as AskLook, Offer as AskOffer}
-use Rattle.session.specs.declared.play_requests.PlayRequest.TheVariants.{Resumed, New}
 use Rattle.session.specs.declared.states.AfterHalt.TheVariants.{Paused}
 use Rattle.session.specs.declared.states.Awaited.TheVariants.{Play, Halt, Look, Offer}
 use Rattle.session.specs.declared.states.State.TheVariants.{Init, Ready, Playing}
@@ -55,14 +53,7 @@ wanted_run : (old : SessionState) (stored : Stored) (setup : Setup) (paused : Op
     (to : Option ℕ) (wanted : PlayRequest) → IsRequestFor stored.film paused from to wanted
     → IsNextRun old stored setup paused (run_of wanted)
     (counts_for stored.film old.source setup old.counts paused wanted)
-wanted_run old stored setup None Now to (Resumed run) is = absurd is
-wanted_run old stored setup (Some paused) Now to (Resumed run) is =
-    inl (record { paused_is = ap (λ r. Some r) (sym is); counts_are = refl })
-wanted_run old stored setup None Now to (New run) is = inr (record { none_sent = is.new.sent_is; counts_are = refl })
-wanted_run old stored setup (Some paused) Now to (New run) is = absurd is
-wanted_run old stored setup paused (At time) to (Resumed run) is = absurd is
-wanted_run old stored setup paused (At time) to (New run) is =
-    inr (record { none_sent = is.new.sent_is; counts_are = refl })
+wanted_run old stored setup paused from to wanted given = grind arith
 
 -- ---- a message, as far as runs go by it
 
@@ -145,11 +136,7 @@ runs_by h (StartsPlay play planned asks planned_is) =
       frames = refl;
     }) asks.command asks.state
 runs_by h (HaltsPlay taken hand is) =
-    let left : IsLeft hand.play.run is.asks.keep is.left = record {
-      first = is.left_is.first_is;
-      end = is.left_is.end_is;
-      sent = is.left_is.sent_is ∙ ap (λ k. hand.play.run.sent + k) (sym is.asks.keep_is);
-    } in
+    let left : IsLeft hand.play.run is.asks.keep is.left = grind arith in
     Stops (halt_of hand is.asks refl left) is.asks.command is.asks.state
 runs_by h (StopsPlay taken hand is) = Stops (halt_of hand is refl tt) is.command is.state
 runs_by h (EndsSession taken is) = Replies _ true is.0 is.1

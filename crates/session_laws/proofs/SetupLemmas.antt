@@ -1,3 +1,4 @@
+use Rattle.std.proofs.Common.{arith}
 -- What a SETUP results in: it is refused, or the session is Ready with what it asks for.
 use Rattle.std.proofs.Common.{◌≡◌, ℕ, List, None, Ok, codes, sym, subst, inl, inr, ◌∙◌, Bool, true, false, refl, ap}
 use Rattle.std.proofs.Common.{true≢false}
@@ -47,15 +48,7 @@ pub record IsOfCall {method : List ℕ} (c : HeardCall method) (request : Reques
 
 read_as : {method : List ℕ} (c : HeardCall method) (request : Request) → IsReadAs c.h.message request
     → IsOfCall c request
-read_as c request is =
-    let same = request_once is c.read in
-    record {
-      is_request = is;
-      method_is = same.method_is;
-      url_is = same.url_is;
-      sequence_is = same.sequence_is;
-      head_is = same.head_is;
-    }
+read_as c request is = grind (arith, request_once is c.read)
 
 pub record CallRead {method : List ℕ} (c : HeardCall method) : Type 0 where
   pub request : Request

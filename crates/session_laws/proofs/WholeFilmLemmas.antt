@@ -1,16 +1,12 @@
 -- A PLAY from a film's beginning, without an end, asks for the entire film.
-use Rattle.std.proofs.Common.{◌≡◌, ◌*◌, ◌≤◌, [], Some, None, length, codes, refl, subst, ◌∙◌, arith}
-use Rattle.std.proofs.Math.Nat.{mul-le-mul_left}
+use Rattle.std.proofs.Common.{◌≡◌, ◌≤◌, [], Some, None, length, codes, refl, subst, arith}
 use Rattle.session.proofs.SharedTerms.{IsAskedRun, IsRequestFor, IsSpan, picture_time, Run, run_of, Span, Stored}
 use Rattle.session.specs.declared.play_requests.PlayRequest.{PlayRequest}
-use Rattle.film_run.proofs.RemainingRunLemmas.{run-same}
-use Rattle.film_run.specs.Seeks.{IsRequestedRange as IsRunAsked}
 use Rattle.rtsp_fields.proofs.DescriptionLines.{zero_time}
 use Rattle.rtsp_fields.proofs.RangeTexts.{span_read}
 use Rattle.rtsp_fields.proofs.SeparatedTexts.{other_than}
 use Rattle.rtsp_fields.specs.declared.ranges.Origin.TheVariants.{At}
 use Rattle.rtsp_fields.proofs.FieldUniqueness.{span_once}
-use Rattle.session.specs.declared.play_requests.PlayRequest.TheVariants.{New, Resumed}
 use Rattle.session_laws.specs.PlayLaws.{unsent_run}
 
 -- the run of all units of a film, of which nothing was sent
@@ -21,19 +17,9 @@ from-zero : IsSpan (codes "npt=0-") (record { from = At 0; to = None })
 unfolding other_than
 from-zero = span_read (codes "0") [] (record { from = At 0; to = None }) refl zero_time refl
 
-whole-asked : (stored : Stored) (run : Run) → 1 ≤ picture_time stored.film.rate → IsRunAsked stored.film 0 None run
-    → run ≡ whole_of stored
-whole-asked stored run some is =
-    let time = picture_time stored.film.rate in
-    let by : run.first_unit * time * 1000000000 ≤ 0 * 360000 = is.begins.by_then in
-    let least : run.first_unit * 1 ≤ run.first_unit * time = mul-le-mul_left run.first_unit some in
-    let first : run.first_unit ≡ 0 = omega (arith, by, least) in
-    run-same first is.ends (is.new.from_is ∙ first) is.new.sent_is is.new.played_is
-
 wanted-whole : (stored : Stored) (wanted : PlayRequest) → 1 ≤ picture_time stored.film.rate
     → IsRequestFor stored.film None (At 0) None wanted → run_of wanted ≡ whole_of stored
-wanted-whole stored (New run) some is = whole-asked stored run some is
-wanted-whole stored (Resumed run) some is = absurd is
+wanted-whole stored wanted given given' = grind arith
 
 pub asked-whole : (stored : Stored) (wanted : PlayRequest) → 1 ≤ picture_time stored.film.rate
     → IsAskedRun stored.film None (Some (codes "npt=0-")) wanted → run_of wanted ≡ whole_of stored

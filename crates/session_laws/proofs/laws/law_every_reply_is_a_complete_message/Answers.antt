@@ -2,8 +2,4 @@ use Rattle.session_laws.proofs.CompleteReplyLemmas.{begins_named, keeps_named, r
 use Rattle.session_laws.proofs.laws.law_every_reply_is_a_complete_message.Goals as goal
 
 pub returns : goal.returns
-returns c = record {
-  begun = begins_named;
-  kept = keeps_named;
-  whole = λ old new message ask hears named room. replies_whole old message ask new named room hears;
-}
+returns c = search (begins_named, keeps_named, replies_whole)
