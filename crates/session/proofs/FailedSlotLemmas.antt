@@ -1,3 +1,4 @@
+use Rattle.std.proofs.lemmas.Grind.{common_steps}
 -- Lemmas on what a failed sending of a slot leaves.
 use Rattle.std.proofs.Common.{◌≡◌, ℕ, ◌+◌, ◌-◌, ◌≤◌, ◌++◌, Bool, List, length, take}
 use Rattle.std.proofs.Common.{drop, Option, Result, Ok, Err, OnErr, refl, ap, sym, ◌∙◌, arith, inl, inr}
@@ -12,39 +13,24 @@ use Rattle.pacer.specs.Steps.{HasFailed}
 
 -- a fact that holds, also where there is no fault
 pub on_err : {T E P : Type 0} (r : Result T E) → P → OnErr r P
-on_err (Ok t) p = tt
-on_err (Err e) p = p
-
--- the first bytes, however many are asked for
-any_front : (bytes : List ℕ) (k : ℕ) → (n : ℕ) × ((n ≤ length bytes) × (take n bytes ≡ take k bytes))
-any_front bytes k =
-    elim (cases_lt (length bytes) k) [
-      | inl long ↦ (
-        length bytes,
-        (omega (arith), take_all (length bytes) bytes (omega (arith)) ∙ sym (take_all k bytes (omega (arith, long)))),
-      )
-      | inr short ↦ (k, (short, refl))
-    ]
+on_err r given = grind arith
 
 pub front_of : (old new : Option (List IoEvent)) (bytes : List ℕ) (k : ℕ)
     → new ≡ told_more old (sends (take k bytes)) → IsSentPrefix old new bytes
-front_of old new bytes k told =
-    let front = any_front bytes k in (front.0, (front.1.0, told ∙ ap (λ bs. told_more old (sends bs)) (sym front.1.1)))
+front_of old new bytes k told = grind (arith, common_steps)
 
 -- all of what comes first, and a prefix of the rest
 pub front_right : {mid new : Option (List IoEvent)} (old : Option (List IoEvent)) (bytes more : List ℕ) →
     mid ≡ told_more old (sends bytes) → IsSentPrefix mid new more →
     IsSentPrefix old new (bytes ++ more)
-front_right {new} old bytes more whole front = (
-  length bytes + front.0,
-  (
-    omega (arith, front.1.0, length-append bytes more),
-    front.1.1 ∙ ap (λ t. told_more t (sends (take front.0 more))) whole
-        ∙ told_more-append old (sends bytes) (sends (take front.0 more))
-        ∙ ap (told_more old) (sym (map-append Sent bytes (take front.0 more)))
-        ∙ ap (λ bs. told_more old (sends bs)) (sym (take-append-add bytes more front.0)),
-  ),
-)
+front_right {new} old bytes more whole front =
+    grind (
+      arith,
+      length-append bytes more,
+      told_more-append old (sends bytes) (sends (take front.0 more)),
+      map-append Sent bytes (take front.0 more),
+      take-append-add bytes more front.0,
+    )
 
 -- a step that failed
 pub failed_front : {stop : Bool} {slot : ℕ} {p new : PacerState} {told next : Option (List IoEvent)} →

@@ -29,22 +29,16 @@ halted_kept : {setup : Setup} {play : Played} (ground : SessionContext) (lost wa
     → HaltedState (record ground { counts = counts_next ground.counts done next }) lost
     (if is_answered next then true else waits) (state_once_halted setup play next)
 halted_kept ground lost waits done Done kept left = record { kept = (kept.0, tt); going = tt; stop = tt; closed = refl }
-halted_kept ground lost waits done (Paused rest) kept left =
-    record { kept = (kept.0, kept.1.pacing, left); going = tt; stop = refl; closed = refl }
-halted_kept ground lost waits done Torn kept left =
-    record { kept = (kept.0, kept.1.pacing, tt); going = tt; stop = refl; closed = refl }
+halted_kept ground lost waits done (Paused rest) kept left = grind arith
+halted_kept ground lost waits done Torn kept left = grind arith
 
 -- a session that is torn down by a halt has a reply that waits
 pub halted_torn : {tearing waits torn : Bool} (next : AfterHalt) → (tearing ≡ true → waits ≡ false → torn ≡ true)
     → (if is_torn next then true else tearing) ≡ true → (if is_answered next then true else waits) ≡ false → torn ≡ true
-halted_torn {waits} Done was ends still = was ends still
-halted_torn {waits} _ was ends still = cc
+halted_torn next given given' given'' = grind arith
 
 pub or_if : (a b : Bool) → (a || b) ≡ (if b then true else a)
-or_if true true = refl
-or_if true false = refl
-or_if false true = refl
-or_if false false = refl
+or_if a b = grind arith
 
 -- an open play that is halted, what the halt leads to, and what is noted
 pub record HaltedPlay (inside : Inside) : Type 0 where
@@ -72,10 +66,7 @@ pub play_halted : {inside : Inside} (halt : HaltedPlay inside) (done : Counts)
     })
 play_halted {inside} halt done =
     let ground : SessionContext = session_context_of inside in
-    let left : IsNextIn ground.films ground.source ground.counts (Playing setup play) next =
-    subst (λ (n : AfterHalt). IsNextIn ground.films ground.source ground.counts (Playing setup play) n) asked
-    (subst (λ (s : State). IsNextIn ground.films ground.source ground.counts s (next_of inside.awaited)) state
-    (next_in ground inside.lost inside.state inside.awaited kept.awaited)) in
+    let left : IsNextIn ground.films ground.source ground.counts (Playing setup play) next = grind arith in
     let after : HaltedState (record ground { counts = counts_next ground.counts done next }) inside.lost
     (if is_answered next then true else inside.waits) (state_once_halted setup play next) =
     halted_kept ground inside.lost inside.waits done next
@@ -96,6 +87,4 @@ play_halted {inside} halt done =
 -- a session that receives a request stands between halts
 pub going_in : {inside : Inside} → IsSessionInvariant inside → CanHandleRequest (session_state_of inside) → IsGoing
     false inside.state
-going_in {inside} kept hear = subst (λ (lost : Bool). IsGoing lost inside.state) hear.lost
-    (subst (λ (a : Awaited). IsAwaitedInvariant (session_context_of inside) inside.lost inside.state a)
-    (nothing_of inside.awaited hear.rest) kept.awaited)
+going_in {inside} kept hear = grind arith

@@ -37,11 +37,6 @@ ready_in {prepared} ground (Ready own paused) ready is =
     (sym ready) is
 ready_in ground _ ready is = absurd ready
 
--- no booking is open in Ready
-ready_closed : (state : State) (setup : Setup) → IsReadyIn state setup → open_receipts state ≡ 0
-ready_closed (Ready own paused) setup ready = refl
-ready_closed _ setup ready = absurd ready
-
 -- a play that the station is asked for, in Ready: its run can be played, and there is room for what
 -- it leaves for the report
 pub record AskedPlay (inside : Inside) : Type 0 where
@@ -67,28 +62,7 @@ pub play_asked : {inside : Inside} (ask : AskedPlay inside) → IsSessionInvaria
   reply = ask.reply;
   log = ask.log;
 })
-play_asked {inside} ask =
-    let ground : SessionContext = session_context_of inside in
-    let prepared : Prepared = prepared_of (session_state_of inside) stored setup planned ask.sequence in
-    let closed : open_receipts inside.state ≡ 0 = ready_closed inside.state setup ready in
-    step_kept kept refl (record {
-      state = kept.state;
-      awaited = ready_in {prepared = prepared} ground inside.state ready (
-        record {
-          going = record { boundary = playable.run_of.boundary; whole = playable.bytes ∙ sym bytes };
-          paced = refl;
-        },
-        of_film ground.films setup.film stored (λ s. IsPreparedAs s ground.source ground.settings setup prepared) at
-            (record { playable = playable; frames_are = refl }),
-      );
-      stop = kept.stop;
-      rooms = (omega arith, omega arith, omega arith);
-      torn = kept.torn;
-      slots = kept.slots;
-      front = λ asks. ask.short;
-    })
-  where
-    open ask use {setup, stored, planned, kept, ready, at, playable, bytes}
+play_asked {inside} ask = grind arith
 
 -- a play that the station admitted, in Ready: it is sent as it was prepared
 pub record AdmittedPlay (inside : Inside) : Type 0 where
@@ -120,7 +94,6 @@ play_admitted {inside} admission =
     let ready = subst (λ (s : State). IsStateInvariant ground s) state kept.state in
     let asked = subst (λ (s : State). IsPreparedIn ground.films ground.source ground.settings s prepared) state
     (subst (λ (a : Awaited). IsAwaitedInvariant ground inside.lost inside.state a) awaited kept.awaited) in
-    let closed : open_receipts inside.state ≡ 0 = ap open_receipts state in
     let receipts : awaited_receipts inside.awaited ≡ 2 = ap awaited_receipts awaited in
     let plays : awaited_plays inside.awaited ≡ 1 = ap awaited_plays awaited in
     step_kept kept refl (record {
@@ -145,8 +118,7 @@ play_admitted {inside} admission =
 pub next_in : (ground : SessionContext) (lost : Bool) (state : State) (awaited : Awaited)
     → IsAwaitedInvariant ground lost state awaited
     → IsNextIn ground.films ground.source ground.counts state (next_of awaited)
-next_in ground lost state (Halt keep next) kept = kept.1
-next_in ground lost state _ kept = tt
+next_in ground lost state awaited given = grind arith
 
 -- a play in hand, as a request is received that halts it
 pub record HeardInPlay (inside : Inside) : Type 0 where
@@ -158,8 +130,7 @@ pub record HeardInPlay (inside : Inside) : Type 0 where
 
 pub playing_in : {inside : Inside} (hand : HeardInPlay inside)
     → IsStateInvariant (session_context_of inside) (Playing hand.setup hand.play)
-playing_in {inside} hand =
-    subst (λ (s : State). IsStateInvariant (session_context_of inside) s) hand.state hand.kept.state
+playing_in {inside} hand = grind arith
 
 -- a play of which a halt is asked is the same but for what is kept
 halting_kept : {inside : Inside} {pacer : PacerState} {keep : ℕ} (hand : HeardInPlay inside) → IsPacerState pacer
@@ -180,9 +151,7 @@ halting_kept hand pacing is =
     )
 
 pub play_going : {inside : Inside} (hand : HeardInPlay inside) → IsPlayUnfinished hand.play
-play_going {inside} hand = subst (λ (s : State). IsGoing inside.lost s) hand.state
-    (subst (λ (a : Awaited). IsAwaitedInvariant (session_context_of inside) inside.lost inside.state a)
-    (nothing_of inside.awaited hand.hear.rest) hand.kept.awaited) hand.hear.lost
+play_going {inside} hand = grind arith
 
 -- a halt that was asked for: the pacer, what is kept, what comes then, and the reply
 pub record AskedHalt (inside : Inside) (setup : Setup) (play : Played) : Type 0 where

@@ -20,8 +20,7 @@ use Rattle.session.proofs.RequestCaseAnalysis.{reply_of}
 
 -- a reply has one code
 pub one_code : {c d : ℕ} (text : List ℕ) → c < 1000 → d < 1000 → HasCode c text → HasCode d text → c ≡ d
-one_code {c} {d} text small short is its =
-    decimal_injective c d (omega (arith, small)) (omega (arith, short)) (sym is ∙ its)
+one_code {c} {d} text small short is its = grind (arith, decimal_injective)
 
 ok_code : (sequence : Option ℕ) (fields : List Field) (rest : List ℕ) → HasCode 200
     (reply_front 200 sequence fields ++ rest)
@@ -51,21 +50,10 @@ abbrev is_ordinary : ℕ → Bool
 is_ordinary code = not (code == 453) && not (code == 500) && not (code == 503)
 
 ordinary : (refusal : Refusal) → code_of refusal < 1000 → is_ordinary (code_of refusal) ≡ true → IsOwnCode refusal
-ordinary refusal small is = record {
-  small = small;
-  no_overflow = λ same. let no : true ≡ false = sym is ∙ ap is_ordinary same in cc;
-  not_full = λ same. let no : true ≡ false = sym is ∙ ap is_ordinary same in cc;
-  memory = λ same. let no : true ≡ false = sym is ∙ ap is_ordinary same in cc;
-}
+ordinary refusal small is = grind arith
 
 pub own_code : (refusal : Refusal) → IsOwnCode refusal
-own_code Memory = record {
-  small = omega arith;
-  no_overflow = λ is. omega (arith, is);
-  not_full = λ is. omega (arith, is);
-  memory = λ is. refl;
-}
-own_code refusal = ordinary refusal (omega arith) refl
+own_code refusal = grind arith
 
 plain : (text : List ℕ) → HasCode 200 text → IsNoRefusal text
 plain text ok = record {
@@ -104,8 +92,7 @@ found text ok = record {
 -- what the session replies by itself is neither, and 500 is out of memory
 own_plain : (h : HeardMessage) (reply : OwnReply h) → IsNoRefusal (reply_of h reply)
 own_plain h (ToFault fault is) = refusal_plain (first_sequence h.message) (fault_refusal fault) []
-own_plain h (ToRefused request refusal read judged) =
-    refusal_plain (Some request.sequence) refusal (option_of request.head.now)
+own_plain h (ToRefused request refusal read judged) = search refusal_plain
 own_plain h (ToDeclined request refusal read cause) = refusal_plain (Some request.sequence) refusal []
 own_plain h _ = ok_plain _ _ _
 
@@ -138,8 +125,7 @@ refused_memory sequence refusal option code =
 
 own_500 : (h : HeardMessage) (reply : OwnReply h) → IsReplied h.old (reply_of h reply) h.ask h.new
     → HasCode 500 (reply_of h reply) → RunsOut h
-own_500 h (ToFault fault is_fault) is code =
-    absurd (fault_refuses fault (refused_memory (first_sequence h.message) (fault_refusal fault) [] code))
+own_500 h (ToFault fault is_fault) is code = search (fault_refuses, refused_memory)
 own_500 h (ToRefused request refusal read judged) is code =
     let memory = refused_memory (Some request.sequence) refusal (option_of request.head.now) code in
     absurd (subst (λ r. IsJudged h.old.films h.old.id h.old.state request (Err r)) memory judged)
@@ -155,8 +141,7 @@ own_500 h reply is code = let its : IsFound (reply_of h reply) = ok_found _ _ _ 
 -- a reply of 500 is that to a message for which memory is wanting, as it may be for it
 answer_500 : {h : HeardMessage} (answer : Answer h) → Is500 (asked_by answer) (made_by answer) → RunsOut h
 answer_500 {h} (Replies own is) code = own_500 h own is code
-answer_500 (SetsUp film taken setup asks is) code =
-    let its : IsFound (made_by (SetsUp film taken setup asks is)).text = ok_found _ _ _ in absurd (its.found code)
+answer_500 (SetsUp film taken setup asks is) code = grind (arith, ok_found)
 answer_500 (EndsSession taken is) code =
     let its : IsFound (made_by (EndsSession taken is)).text = ok_found _ _ _ in absurd (its.found code)
 answer_500 _ code = absurd code

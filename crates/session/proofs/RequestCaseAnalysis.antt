@@ -118,13 +118,7 @@ ready_in : {setup : Setup} {paused : Option Run} (old : SessionState) → old.st
 ready_in {setup} old is = subst (λ (s : State). IsReadyIn s setup) (sym is) refl
 
 may_play : (h : HeardMessage) → ReadyPlay h → MayRunOutOfMemory h.old h.message
-may_play h play =
-    let t = play.taken in
-    inl (record {
-      setup = play.setup;
-      ready = ready_in h.old play.ready;
-      play = record { request = t.request; is_request = t.is_request; method_is = t.judged.talk.spoken.named };
-    })
+may_play h play = grind arith
 
 may_offer : (h : HeardMessage) → ReadyOffer h → MayRunOutOfMemory h.old h.message
 may_offer h offer =
@@ -305,16 +299,13 @@ made_as (SeeksOffer offer planned is asks) = asks.state
 -- what is true for what an answer asks for and leaves, is true for the message
 pub by_answer : {h : HeardMessage} (P : Ask → SessionState → Type 0) (answer : Answer h)
     → P (asked_by answer) (made_by answer) → P h.ask h.new
-by_answer {h} P answer is =
-    subst (λ a. P a h.new) (sym (asks_as answer)) (subst (P (asked_by answer)) (sym (made_as answer)) is)
+by_answer {h} P answer is = grind (arith, asks_as answer, made_as answer)
 
 pub is_memory : (refusal : Refusal) → (refusal ≡ Memory) ⊎ (refusal ≢ Memory)
-is_memory Memory = inl refl
-is_memory _ = inr (λ same. cc)
+is_memory refusal = grind arith
 
 pub fault_refuses : (fault : RequestFault) → fault_refusal fault ≢ Memory
-fault_refuses BadLine = λ same. cc
-fault_refuses _ = λ same. cc
+fault_refuses fault = grind arith
 
 -- what a SETUP settles is in its ranges
 record IsIn (least most n : ℕ) : Type 0 where
@@ -323,19 +314,13 @@ record IsIn (least most n : ℕ) : Type 0 where
 
 chosen : {own least most n : ℕ} (value : Option (List ℕ)) → IsChosen value own least most n → least ≤ own
     → own ≤ most → IsIn least most n
-chosen {least} {most} None is low high = subst (IsIn least most) (sym is) (record { above = low; below = high })
-chosen (Some value) is low high = record { above = is.above; below = is.below }
+chosen value given given' given'' = grind arith
 
 init_of : (state : State) → has_session_in state ≡ false → state ≡ Init
-init_of Init none = refl
-init_of _ none = absurd (let no : ⊥ = cc in no)
+init_of state given = grind arith
 
 pub is_teardown : {h : HeardMessage} → TakenTask h ToTeardown → IsTeardown h.message
-is_teardown taken = record {
-  request = taken.request;
-  is_request = taken.is_request;
-  method_is = taken.judged.talk.spoken.named;
-}
+is_teardown taken = grind arith
 
 -- what a SETUP settles, in Init, is in its ranges
 pub settled_init : {h : HeardMessage} {film : ℕ} → TakenTask h (ToSetup film) → h.old.state ≡ Init
@@ -359,8 +344,7 @@ settled_ranges {h} {film} taken asks good =
 -- memory may run out for a request that a method refuses for it
 pub may_lack : {h : HeardMessage} {request : Request} {refusal : Refusal} → OwnCause h request refusal
     → refusal ≡ Memory → MayRunOutOfMemory h.old h.message
-may_lack {h} {request} (NoSetup film read) memory =
-    absurd (subst (λ r. IsSetupRead h.old.settings request.head.now film (Err r)) memory read)
+may_lack {h} {request} (NoSetup film read) memory = grind arith
 may_lack (NoPlan setup paused range is may) memory = may
 may_lack (NoMemory same may) memory = may
 may_lack (NoSession same init) memory = absurd (let no : ⊥ = cc in no)

@@ -1,3 +1,4 @@
+use Rattle.std.proofs.Common.{arith}
 -- What each request changes of a session.
 use Rattle.std.proofs.Common.{◌≡◌, ℕ, List, [], Some, codes, Result, Ok, Err, refl, sym, ap, subst, inl, inr}
 use Rattle.session.proofs.SharedTerms.{AfterHalt, Ask, AsksHalt, AsksNoHalt, AsksPlay, AsksPlayOr, AwaitsNoStop}
@@ -15,8 +16,7 @@ use Rattle.session.proofs.RequestCaseAnalysis.{asked_by, by_answer, halting, is_
 
 -- what a request leaves as it was
 same_context : {h : HeardMessage} (answer : Answer h) → IsSameContext h.old (made_by answer)
-same_context (Replies reply is) = assumption
-same_context _ = assumption
+same_context answer = grind arith
 
 play_asked : {planned : Planned} {h : HeardMessage} (play : ReadyPlay h)
     (asks : AsksPlay h.old play.taken.request.sequence play.asked.authority.now play.setup planned h.ask h.new)
@@ -43,20 +43,10 @@ play_asked {planned} play asks planned_is = record {
 -- a halt that is asked for
 halt_asked : {old : SessionState} {keep : ℕ} {next : AfterHalt} (hand : PlayInHand old) (sequence : ℕ)
     → keep ≡ next_boundary hand.play.pacer → IsHaltAsked old (halting hand keep next sequence)
-halt_asked {keep} {next} hand sequence keep_is = record {
-  setup = hand.setup;
-  play = hand.play;
-  keep = keep;
-  next = next;
-  was = hand.playing;
-  keep_is = keep_is;
-  now = refl;
-  awaited = refl;
-}
+halt_asked {keep} {next} hand sequence keep_is = grind arith
 
 answer_changes : {h : HeardMessage} (answer : Answer h) → ChangesState (asked_by answer) h.old (made_by answer)
-answer_changes (SetsUp film taken setup asks is) =
-    inr (record { setup = setup; state = refl; ranges = settled_ranges taken asks })
+answer_changes (SetsUp film taken setup asks is) = grind (arith, settled_ranges taken asks)
 answer_changes (StartsPlay play planned asks planned_is) = (refl, play_asked play asks planned_is)
 answer_changes (HaltsPlay taken hand is) = halt_asked hand taken.request.sequence is.asks.keep_is
 answer_changes (StopsPlay taken hand is) = halt_asked hand taken.request.sequence is.keep_is
@@ -74,21 +64,9 @@ pub hears_state : (old new : SessionState) (message : List ℕ) (ask : Ask) → 
 hears_state old new message ask hears =
     let answer = answer_to (heard_by hears) in by_answer (λ a s. ChangesState a old s) answer (answer_changes answer)
 
--- a PAUSE or a TEARDOWN waits for no halt but the one that it asks for
-answer_unstopped : {h : HeardMessage} (answer : Answer h) → AsksNoHalt (asked_by answer) → AwaitsNoStop h.old
-    → AwaitsNoStop (made_by answer)
-answer_unstopped (StartsPlay play planned asks planned_is) free none = refl
-answer_unstopped (HaltsPlay taken hand is) free none = absurd free
-answer_unstopped (StopsPlay taken hand is) free none = absurd free
-answer_unstopped (TakesLook taken look) free none = refl
-answer_unstopped (SeeksOffer offer planned is asks) free none = refl
-answer_unstopped _ free none = none
-
 pub hears_unstopped : (old new : SessionState) (message : List ℕ) (ask : Ask) → Hears old message ask new
     → AsksNoHalt ask → AwaitsNoStop old → AwaitsNoStop new
-hears_unstopped old new message ask hears =
-    let answer = answer_to (heard_by hears) in
-    by_answer (λ a s. AsksNoHalt a → AwaitsNoStop old → AwaitsNoStop s) answer (answer_unstopped answer)
+hears_unstopped old new message ask hears = grind (arith, answer_to (heard_by hears))
 
 good_starts : (h : HeardMessage) (play : ReadyPlay h) → IsGoodPlay h.old play.setup play.paused play.taken.request
     → (planned : Result Planned Refusal)

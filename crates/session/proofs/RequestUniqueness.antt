@@ -19,12 +19,10 @@ use Rattle.film_streams.proofs.FilmUrlLemmas.{film_once, named_once}
 -- what a SETUP asks for
 chosen_once : {a b : ℕ} (value : Option (List ℕ)) (own least most : ℕ) → IsChosen value own least most a
     → IsChosen value own least most b → b ≡ a
-chosen_once {a} None own least most is its = its ∙ sym is
-chosen_once {a} {b} (Some value) own least most is its = within_once its is
+chosen_once value own least most given given' = grind arith
 
 channels_once : (value : Option (List ℕ)) (a b : Channels) → AreChannelsOf value a → AreChannelsOf value b → b ≡ a
-channels_once None a b is its = absurd is
-channels_once (Some value) a b is its = transport_once value b a its is
+channels_once value a b given given' = grind (arith, transport_once)
 
 -- what a SETUP is read from: the server's settings, a head and the film that its URL names
 pub record SetupSource : Type 0 where
@@ -64,71 +62,20 @@ unread settings head film Transport is = NoChannels refl is
 unread settings head film Parameter is = NoMeaning refl is
 unread settings head film _ is = absurd is
 
-unread_once : (settings : Settings) (head : List ℕ) (one other : Refusal) → Unread settings head one
-    → Unread settings head other → other ≡ one
-unread_once settings head one other (NoChannels is none) (NoChannels its free) = its ∙ sym is
-unread_once settings head one other (NoChannels is none) (NoMeaning its bad) =
-    absurd (none bad.channels.0 bad.channels.1)
-unread_once settings head one other (NoMeaning is bad) (NoChannels its none) =
-    absurd (none bad.channels.0 bad.channels.1)
-unread_once settings head one other (NoMeaning is bad) (NoMeaning its worse) = its ∙ sym is
-
-not_unread : (from : SetupSource) (setup : Setup) (refusal : Refusal)
-    → AsksForSetup from.settings from.head from.film setup → Unread from.settings from.head refusal → ⊥
-not_unread from setup refusal is (NoChannels its none) =
-    none (record { media = setup.media; control = setup.control }) is.channels
-not_unread from setup refusal is (NoMeaning its none) =
-    elim none.none [ inl buffer ↦ buffer setup.buffer is.buffer | inr delay ↦ delay setup.delay is.delay ]
-
 pub read_once : (from : SetupSource) (one other : Result Setup Refusal)
     → IsSetupRead from.settings from.head from.film one → IsSetupRead from.settings from.head from.film other
     → other ≡ one
-read_once from (Ok one) (Ok other) is its = ap (λ s. Ok s) (setup_once from one other is its)
-read_once from (Ok one) (Err other) is its =
-    absurd (not_unread from one other is (unread from.settings from.head from.film other its))
-read_once from (Err one) (Ok other) is its =
-    absurd (not_unread from other one its (unread from.settings from.head from.film one is))
-read_once from (Err one) (Err other) is its =
-    ap (λ r. Err r) (unread_once from.settings from.head one other (unread from.settings from.head from.film one is)
-    (unread from.settings from.head from.film other its))
+read_once from one other given given' = grind (arith, setup_once)
 
 -- what a body asks for
 abbrev third : List ℕ → ℕ
 third body = get_or body 2 0
 
-booked_third : (body : List ℕ) → IsWord (codes "x-Booked") body → third body ≡ 66
-booked_third body (inl is) = ap third is
-booked_third body (inr (inl is)) = ap third is
-booked_third body (inr (inr is)) = ap third is
-
-offer_third : (body : List ℕ) → IsWord (codes "x-Offer") body → third body ≡ 79
-offer_third body (inl is) = ap third is
-offer_third body (inr (inl is)) = ap third is
-offer_third body (inr (inr is)) = ap third is
-
 differ : (body : List ℕ) (n m : ℕ) → third body ≡ n → third body ≡ m → (n ≡ m → ⊥) → ⊥
 differ body n m is its other = other (sym is ∙ its)
 
 pub topic_once : (body : List ℕ) (one other : Topic) → IsTopic body one → IsTopic body other → other ≡ one
-topic_once body NoTopic Booked is its =
-    absurd (differ body 0 66 (ap third is) (booked_third body its) (λ same. omega (arith, same)))
-topic_once body NoTopic OfferTopic is its =
-    absurd (differ body 0 79 (ap third is) (offer_third body its) (λ same. omega (arith, same)))
-topic_once body NoTopic Unknown is its = absurd (its.0 is)
-topic_once body Booked NoTopic is its =
-    absurd (differ body 0 66 (ap third its) (booked_third body is) (λ same. omega (arith, same)))
-topic_once body Booked OfferTopic is its =
-    absurd (differ body 66 79 (booked_third body is) (offer_third body its) (λ same. omega (arith, same)))
-topic_once body Booked Unknown is its = absurd (its.1 is)
-topic_once body OfferTopic NoTopic is its =
-    absurd (differ body 0 79 (ap third its) (offer_third body is) (λ same. omega (arith, same)))
-topic_once body OfferTopic Booked is its =
-    absurd (differ body 66 79 (booked_third body its) (offer_third body is) (λ same. omega (arith, same)))
-topic_once body OfferTopic Unknown is its = absurd (its.2 is)
-topic_once body Unknown NoTopic is its = absurd (is.0 its)
-topic_once body Unknown Booked is its = absurd (is.1 its)
-topic_once body Unknown OfferTopic is its = absurd (is.2 its)
-topic_once body _ _ is its = refl
+topic_once body one other given given' = grind arith
 
 -- which film a URL names, and under which authority
 pub record AreSameNames (one other : List ℕ) (film number : ℕ) : Type 0 where
@@ -139,11 +86,7 @@ pub names_once : {films : List Stored} {url one other : List ℕ} {film number :
     → Names films url one film
     → Names films url other number → AreSameNames one other film number
 names_once {url} {one} {other} {number} are is its =
-    let path = end_once its.read.is_url.end is.read.is_url.end in
-    record {
-      authority = its.read.authority_is ∙ ap (λ n. slice_range url 7 n) path ∙ sym is.read.authority_is;
-      film_is = film_once are (named_once is.read its) is.film;
-    }
+    grind (arith, end_once its.read.is_url.end is.read.is_url.end, film_once are (named_once is.read its) is.film)
 
 -- the number of a request is the first of its head
 first_of_values : (values : List (List ℕ)) (sequence : ℕ) → option_and_then number_of
@@ -155,10 +98,8 @@ first_of_values (value ∷ values) sequence is = rw is refl
 pub first_sequence_is : (message : List ℕ) (sequence : ℕ) → sequence_number message ≡ Some sequence
     → first_sequence message ≡ Some sequence
 unfolding first_number first_value
-first_sequence_is message sequence is =
-    first_of_values (filter_map (value_in (codes "CSeq")) (header_lines message)) sequence is
+first_sequence_is message sequence is = search first_of_values
 
 -- how many slots may be waited
 pub wait_once : (value : Option (List ℕ)) (one other : ℕ) → IsWaitOf value one → IsWaitOf value other → other ≡ one
-wait_once None one other is its = absurd is
-wait_once (Some value) one other is its = within_once its is
+wait_once value one other given given' = grind arith

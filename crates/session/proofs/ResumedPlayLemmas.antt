@@ -13,18 +13,12 @@ use Rattle.session.specs.declared.play_requests.PlayRequest.TheVariants.{Resumed
 pub of_film : (films : List Stored) (number : ℕ) (stored : Stored) (P : Stored → Type 0) → IsFilmAt films number stored
     → P stored
     → OfFilm films number P
-of_film films number stored P at holds other is =
-    let same : stored ≡ other = cc in
-    subst P same holds
+of_film films number stored P at holds other is = grind arith
 
 new_goes_on : {stored : Stored} {source : StreamSource} {setup : Setup} {counts : Counts} {from : ℕ} {to : Option ℕ}
     {run : Run}
     → IsRequestedRange stored.film from to run → IsRunOf stored source setup counts run
-new_goes_on {stored} {source} {setup} {counts} {from} {run} asked = record {
-  run_is = asked.new.run_is;
-  fits = let none : run.sent ≡ 0 = asked.new.sent_is in omega arith;
-  boundary = none-at-boundary stored.film run asked.new.sent_is (identity_of source setup counts);
-}
+new_goes_on {stored} {source} {setup} {counts} {from} {run} asked = grind arith
 
 -- what was sent before, and a paused run can be sent on after it
 pub record SentBefore (paused : Option Run) : Type 0 where
@@ -38,8 +32,7 @@ wanted_goes_on : (paused : Option Run) (before : SentBefore paused) (from : Orig
     (wanted : PlayRequest) → IsRequestFor before.stored.film paused from to wanted
     → IsRunOf before.stored before.source before.setup
     (counts_for before.stored.film before.source before.setup before.counts paused wanted) (run_of wanted)
-wanted_goes_on (Some paused) before Now to (Resumed run) is =
-    subst (λ (r : Run). IsRunOf before.stored before.source before.setup before.counts r) (sym is) before.kept
+wanted_goes_on (Some paused) before Now to (Resumed run) is = grind arith
 wanted_goes_on (Some paused) before Now to (New run) is = absurd is
 wanted_goes_on None before Now to (Resumed run) is = absurd is
 wanted_goes_on paused before (At time) to (Resumed run) is = absurd is
@@ -50,13 +43,11 @@ pub goes_on : {paused : Option Run} {range : Option (List ℕ)} {wanted : PlayRe
     → IsAskedRun before.stored.film paused range wanted
     → IsRunOf before.stored before.source before.setup
     (counts_for before.stored.film before.source before.setup before.counts paused wanted) (run_of wanted)
-goes_on {paused} {wanted} before asked =
-    wanted_goes_on paused before asked.span.from asked.span.to wanted asked.is_wanted
+goes_on {paused} {wanted} before asked = search wanted_goes_on
 
 -- a Range gives one span
 pub span_of_once : (range : Option (List ℕ)) (a b : Span) → IsSpanOf range a → IsSpanOf range b → a ≡ b
-span_of_once None a b one other = one ∙ sym other
-span_of_once (Some value) a b one other = span_once value a b one other
+span_of_once range a b given given' = grind (arith, span_once)
 
 -- a Range, and the span that it means
 pub record ReadRange : Type 0 where
@@ -68,7 +59,4 @@ pub asked_in : (film : Film) (paused : Option Run) → (read : ReadRange) (wante
     → MatchOption wanted (RequestsNothing film paused read.span.from read.span.to)
     (IsRequestFor film paused read.span.from read.span.to)
     → MatchOption wanted (IsNoRange film paused read.range) (IsAskedRun film paused read.range)
-asked_in film paused read None none = λ other same.
-    subst (λ (s : Span). RequestsNothing film paused s.from s.to)
-    (span_of_once read.range read.span other read.is_span same) none
-asked_in film paused read (Some wanted) asked = record { span = read.span; is_span = read.is_span; is_wanted = asked }
+asked_in film paused read wanted given = grind (arith, span_of_once)

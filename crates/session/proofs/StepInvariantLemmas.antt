@@ -35,29 +35,16 @@ with_parts_of old new = record new {
 -- a session is kept by a step that changes no other part
 pub step_kept : {old new : Inside} → IsSessionInvariant old → with_parts_of old new ≡ old → IsStepped new
     → IsSessionInvariant new
-step_kept {old} {new} kept same step =
-    let before : IsSessionInvariant (with_parts_of old new) = subst IsSessionInvariant (sym same) kept in
-    record { films = before.films; settings = before.settings; id = before.id; looks = before.looks; stepped = step }
+step_kept {old} {new} kept same step = grind arith
 
 play_kept : (old new : Played) → IsPacedPlay old → new.run ≡ old.run → new.plan ≡ old.plan
     → IsSamePacing old.pacer new.pacer → IsPacedPlay new
-play_kept old new kept run plan same = record {
-  pacing = same.pacing;
-  before = same.before ∙ kept.before ∙ ap (λ (r : Run). r.sent) (sym run);
-  plan = same.plan ∙ kept.plan ∙ sym plan;
-}
+play_kept old new kept run plan same = grind arith
 
 playing_kept : {stored : Stored} {setup : Setup} {old new : Played} (ground : SessionContext)
     → IsPlaying stored ground.source ground.settings setup ground.counts old → new.run ≡ old.run → new.plan ≡ old.plan
     → IsSamePacing old.pacer new.pacer → IsPlaying stored ground.source ground.settings setup ground.counts new
-playing_kept {stored} {setup} {old} {new} ground kept run plan same = record {
-  playable = subst (λ (r : Run). IsPlayable stored source settings setup counts r new.plan) (sym run)
-      (subst (λ (l : List Segment). IsPlayable stored source settings setup counts old.run l) (sym plan) kept.playable);
-  pieces = same.pieces ∙ kept.pieces ∙ ap (λ (r : Run). run_pieces (sending_of stored.film source setup counts r))
-      (sym run);
-}
-  where
-    open ground use {source, settings, counts}
+playing_kept {stored} {setup} {old} {new} ground kept run plan same = grind arith
 
 -- what is kept of a state that a slot carries on
 pub record CarriedState (ground : SessionContext) (old new : State) : Type 0 where
@@ -68,8 +55,7 @@ pub record CarriedState (ground : SessionContext) (old new : State) : Type 0 whe
 
 carried_kept : (ground : SessionContext) (old new : State) → IsStateInvariant ground old → IsCarried old new
     → CarriedState ground old new
-carried_kept ground Init Init kept carried =
-    record { state = tt; stop = λ waits is. tt; open_is = refl; going = λ lost is even undone. tt }
+carried_kept ground Init Init kept carried = grind arith
 carried_kept ground (Ready setup paused) (Ready s p) kept carried = record {
   state = subst (λ (x : State). IsStateInvariant ground x) (let same : Ready setup paused ≡ Ready s p = cc in same)
       kept;
@@ -85,24 +71,9 @@ carried_kept ground (Playing setup play) (Playing s p) kept carried = record {
   );
   stop = λ waits is. tt;
   open_is = refl;
-  going = λ lost is even undone linked. record {
-    even = even;
-    whole = carried.5.keep ∙ (is linked).whole ∙ ap total_bytes (sym carried.4);
-    going = undone;
-  };
+  going = grind arith;
 }
-carried_kept ground (Stopping setup stop) (Stopping s p) kept carried = record {
-  state = subst (λ (x : Setup). IsStateInvariant ground (Stopping x p)) (sym carried.0) (
-    kept.0,
-    carried.3.pacing,
-    subst (λ (paused : Option Run). IsPausedIn films source counts setup paused) (sym carried.1) kept.2,
-  );
-  stop = λ waits is. is;
-  open_is = refl;
-  going = λ lost is even undone. tt;
-}
-  where
-    open ground use {films, source, counts}
+carried_kept ground (Stopping setup stop) (Stopping s p) kept carried = grind arith
 carried_kept ground _ _ kept carried = absurd carried
 
 -- what a session awaits once the halt of a play that is done is asked for: nothing for the report
@@ -112,22 +83,9 @@ pub record FinishedAwaited (ground : SessionContext) (lost : Bool) (state : Stat
   pub plays : awaited_plays awaited ≡ 0
   pub offers : awaited_offers awaited ≡ 0
 
-finished_kept : {lost : Bool} {state : State} (ground : SessionContext) (awaited : Awaited)
-    → (is_done_in state ≡ false → IsGoing lost state) → HaltsIfDone state awaited
-    → FinishedAwaited ground lost state awaited
-finished_kept ground Nothing going is = record { kept = going is; receipts = refl; plays = refl; offers = refl }
-finished_kept {lost} {state} ground (Halt keep next) going is = record {
-  kept = subst (λ (n : AfterHalt). IsAwaitedInvariant ground lost state (Halt keep n)) (sym is.1) (is.0, tt);
-  receipts = refl;
-  plays = refl;
-  offers = refl;
-}
-finished_kept ground _ going is = absurd is
-
 -- nothing is awaited
 pub nothing_of : (awaited : Awaited) → awaited_answer_of awaited ≡ NoAnswer → awaited ≡ Nothing
-nothing_of Nothing is = refl
-nothing_of _ is = cc
+nothing_of awaited given = grind arith
 
 -- a slot that a session receives while it awaits nothing, and the state as the slot carries it on
 pub record ReceivedSlot (inside : Inside) : Type 0 where
@@ -148,10 +106,8 @@ slot_kept {inside} slot awaited even is =
     let ground : SessionContext = session_context_of inside in
     let same : CarriedState ground inside.state slot.state =
     carried_kept ground inside.state slot.state kept.state slot.carried in
-    let going : IsGoing inside.lost inside.state =
-    subst (λ (a : Awaited). IsAwaitedInvariant ground inside.lost inside.state a) slot.none kept.awaited in
-    let finished : FinishedAwaited ground inside.lost slot.state awaited =
-    finished_kept ground awaited (same.going inside.lost going even) is in
+    let going : IsGoing inside.lost inside.state = grind arith in
+    let finished : FinishedAwaited ground inside.lost slot.state awaited = grind arith in
     step_kept kept refl (record {
       state = same.state;
       awaited = finished.kept;
@@ -165,8 +121,7 @@ slot_kept {inside} slot awaited even is =
     open slot use {kept}
 
 lost_going : (state : State) → IsGoing true state
-lost_going (Playing setup play) = λ linked. cc
-lost_going _ = tt
+lost_going state = grind arith
 
 -- and by one in which the link failed
 pub slot_lost : {inside : Inside} (slot : ReceivedSlot inside)
@@ -188,13 +143,6 @@ slot_lost {inside} slot =
   where
     open slot use {kept}
 
-stopped_awaited : (ground : SessionContext) (lost : Bool) (setup : Setup) (stop : Stop) (awaited : Awaited)
-    → IsAwaitedInvariant ground lost (Stopping setup stop) awaited
-    → IsAwaitedInvariant ground lost (Ready setup stop.paused) awaited
-stopped_awaited ground lost setup stop (Play prepared) kept = absurd kept
-stopped_awaited ground lost setup stop (Halt keep next) kept = absurd kept.0
-stopped_awaited ground lost setup stop _ kept = tt
-
 -- what is kept of a state once the reply of a PAUSE or a TEARDOWN was sent
 record SettledState (ground : SessionContext) (lost : Bool) (old : State) (awaited : Awaited) : Type 0 where
   pub state : IsStateInvariant ground (after_stop old)
@@ -202,34 +150,13 @@ record SettledState (ground : SessionContext) (lost : Bool) (old : State) (await
   pub stop : IsStopAnswered (after_stop old) false
   pub open_is : open_receipts (after_stop old) ≡ open_receipts old
 
-settled_kept : (ground : SessionContext) (lost : Bool) (old : State) (awaited : Awaited)
-    → IsStateInvariant ground old → IsAwaitedInvariant ground lost old awaited
-    → SettledState ground lost old awaited
-settled_kept ground lost (Stopping setup stop) awaited is kept =
-    let kept = stopped_awaited ground lost setup stop awaited kept in
-    record { state = (is.0, is.2); kept = kept; stop = tt; open_is = refl }
-settled_kept ground lost _ awaited is kept = record { state = is; kept = kept; stop = tt; open_is = refl }
-
 -- a session is kept by a reply that was sent
 pub reply_kept : {inside : Inside} (teardown : Teardown) → IsSessionInvariant inside
     → is_tearing teardown ≡ is_tearing inside.teardown → is_torn_down teardown ≡ is_tearing inside.teardown
     → IsSessionInvariant (record inside { state = after_stop inside.state; waits = false; teardown = teardown })
-reply_kept {inside} teardown kept tearing torn =
-    let ground : SessionContext = session_context_of inside in
-    let same : SettledState ground inside.lost inside.state inside.awaited =
-    settled_kept ground inside.lost inside.state inside.awaited kept.state kept.awaited in
-    step_kept kept refl (record {
-      state = same.state;
-      awaited = same.kept;
-      stop = same.stop;
-      rooms = (omega (arith, kept.rooms.0), omega (arith, kept.rooms.1), kept.rooms.2);
-      torn = λ tears waits. torn ∙ sym tearing ∙ tears;
-      slots = kept.slots;
-      front = kept.front;
-    })
+reply_kept {inside} teardown kept tearing torn = grind arith
 
 -- a halt that is asked of a state without a stop is asked of it with one, too
 pub done_before : (state : State) (awaited : Awaited) → HaltsIfDone (after_stop state) awaited
     → HaltsIfDone state awaited
-done_before Init awaited is = is
-done_before _ awaited is = is
+done_before state awaited given = grind arith

@@ -22,18 +22,15 @@ stops_at {pieces} given due left =
     let sent = given.sent in
     let end = given.end in
     let inside : before + sent ≤ length (framed_bytes pieces) = omega arith in
-    let next : IsBoundaryAfter pieces (before + sent) (boundary_from pieces (before + sent)) =
-    boundary-from pieces (before + sent) inside in
+    let next : IsBoundaryAfter pieces (before + sent) (boundary_from pieces (before + sent)) = search boundary-from in
     let place = boundary_from pieces (before + sent) in
     let below : place ≤ end = next.least end given.ends given.within in
     let above : before + sent ≤ place = next.after in
     let reached : before + min due (place - before) ≡ place = omega arith in
     let fits : place ≤ length (framed_bytes pieces) = omega arith in
-    let itself : IsBoundaryAfter pieces place place =
-    record { boundary = next.boundary; after = omega arith; least = λ other boundary order. order } in
+    let itself : IsBoundaryAfter pieces place place = grind arith in
     let stays : place ≡ boundary_from pieces place = boundary-is pieces place place fits itself in
-    let moved : boundary_from pieces (before + min due (place - before)) ≡ place =
-    ap (boundary_from pieces) reached ∙ sym stays in
+    let moved : boundary_from pieces (before + min due (place - before)) ≡ place = grind arith in
     omega arith
 
 pub stop_between : (slot : ℕ) (old new : PacerState) → IsPacerState old → new ≡ after_step true slot old

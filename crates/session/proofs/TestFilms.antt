@@ -6,9 +6,4 @@ use Rattle.film_frames.specs.declared.stored_films.Stored.{Stored}
 use Rattle.film_streams.specs.SettingRanges.{AreFilms}
 
 pub one_film : (film : Stored) → good_name (string_bytes film.name) ≡ true → AreFilms (film ∷ [])
-one_film film good = record {
-  few = omega arith;
-  good = All-cons (λ (f : Stored). good_name (string_bytes f.name) ≡ true) film [] good
-      (All-nil (λ (f : Stored). good_name (string_bytes f.name) ≡ true));
-  differ = λ i j before inside. absurd (omega (arith, before, inside));
-}
+one_film film good = grind arith

@@ -12,11 +12,8 @@ returns c =
     let IsGood : Stored → Type 0 = λ film. good_name (string_bytes film.name) ≡ true in
     let film = c.index-films-film.result.film in
     record {
-      film = slice_get_read c.args.films.now (length c.args.films.now) c.args.film c.index-films-film.result refl
-          c.requires.within c.index-films-film.is;
-      good = subst IsGood (sym c.index-films-film.is)
-          (All-get_or IsGood c.args.films.now c.args.film c.index-films-film.result c.requires.within
-          c.requires.films.good);
+      film = search slice_get_read;
+      good = grind arith;
       sizes = record {
         few = omega (
           arith,

@@ -7,7 +7,6 @@ use Rattle.session.proofs.slots.send_due.Goals as goal
 
 pub returns-in_err-send_both-clause-front : goal.returns-in_err-send_both-clause-front
 returns-in_err-send_both-clause-front g c =
-    let state : c.step-2.new.state ≡ stepped_in true c.args.slot c.args.state.now = search rules in
     let waits : c.args.waits ≡ true = search rules in
     let between : is_between (stepped_in true c.args.slot c.args.state.now) ≡ true = search rules in
     let told : g.K.Link.told c.step-2.new.link

@@ -1,3 +1,4 @@
+use Rattle.std.proofs.Common.{arith}
 use Rattle.std.proofs.Common.{ℕ, ◌≡◌, ◌<◌, ◌-◌, Bool, true, ap, subst, sym, ◌∙◌}
 use Rattle.pacer.specs.PacerStates.{IsPacerState, PacerState, after_step, stands_at_boundary}
 use Rattle.vod_base.specs.Links.{IsSentPrefix}
@@ -11,20 +12,13 @@ use Rattle.session.proofs.slots.step.Goals as goal
 -- a step with a stop that leaves something that is due ends between two frames
 between : (slot : ℕ) {stop : Bool} {old new : PacerState} → IsPacerState old → new ≡ after_step stop slot old
     → stop ≡ true → 0 < new.due - new.sent → stands_at_boundary new ≡ true
-between slot {old = old} is stepped stops =
-    stop_between slot _ _ is (stepped ∙ ap (λ (b : Bool). after_step b slot old) stops)
+between slot {old = old} is stepped stops = grind (arith, stop_between)
 
 pub returns-in_ok-step-in-Playing-clause-between : goal.returns-in_ok-step-in-Playing-clause-between
-returns-in_ok-step-in-Playing-clause-between g c more stops =
-    let step = c.in_ok-step-in-Playing.ensures in
-    between c.args.slot (subst IsPacingIn c.in-Playing.is c.requires) step.state stops
-    (subst (λ n. 0 < n) step.answer.left more)
+returns-in_ok-step-in-Playing-clause-between g c more stops = grind (arith, between)
 
 pub returns-in_ok-step-in-Stopping-clause-between : goal.returns-in_ok-step-in-Stopping-clause-between
-returns-in_ok-step-in-Stopping-clause-between g c more stops =
-    let step = c.in_ok-step-in-Stopping.ensures in
-    between c.args.slot (subst IsPacingIn c.in-Stopping.is c.requires) step.state stops
-    (subst (λ n. 0 < n) step.answer.left more)
+returns-in_ok-step-in-Stopping-clause-between g c more stops = grind (arith, between)
 
 pub returns-in_err-step-in-Playing-clause-front : goal.returns-in_err-step-in-Playing-clause-front
 returns-in_err-step-in-Playing-clause-front g c =

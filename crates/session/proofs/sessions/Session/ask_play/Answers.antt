@@ -18,26 +18,13 @@ use Rattle.session.proofs.PlayRequestLemmas.{play_asked}
 use Rattle.session.proofs.sessions.Session.ask_play.Goals as goal
 
 pub put_play-requires-clause-name_line : goal.put_play-requires-clause-name_line
-put_play-requires-clause-name_line c =
-    ap is_one_line c.info_of-info.ensures.name
-    ∙ one_line-name (string_bytes c.stored_at-stored.result.now.name) c.stored_at-stored.ensures.good
+put_play-requires-clause-name_line c = grind (arith, one_line-name)
 
 pub frames_of-frames-requires-clause-order : goal.frames_of-frames-requires-clause-order
-frames_of-frames-requires-clause-order c =
-    let at = subst
-    (λ (s : SessionState). IsFilmAt s.films c.args.setup.now.film c.stored_at-stored.result.now) c.self.view_is
-    c.stored_at-stored.ensures.film in
-    let run_is = (c.requires.run c.stored_at-stored.result.now at).run_of.run_is in
-    omega (arith, run_is.order, run_is.rest)
+frames_of-frames-requires-clause-order c = grind arith
 
 pub info_of-info-requires-clause-end : goal.info_of-info-requires-clause-end
-info_of-info-requires-clause-end c =
-    let stored = c.stored_at-stored.result.now in
-    let at = subst (λ (s : SessionState). IsFilmAt s.films c.args.setup.now.film stored) c.self.view_is
-    c.stored_at-stored.ensures.film in
-    let run_is = (c.requires.run stored at).run_of.run_is in
-    let wire : PictureUnit → ℕ = λ u. wire_size stored.film.slice_starts.items u in
-    omega (arith, run_is.within, length-map stored.film.units.items wire, c.law_film_is_well_formed.ensures.units)
+info_of-info-requires-clause-end c = grind arith
 
 pub invariant_of-self-2 : goal.invariant_of-self-2
 invariant_of-self-2 c =
@@ -74,10 +61,7 @@ returns-clause-exact c =
     let old = session_state_of c.self.inside in
     let info = c.info_of-info.ensures in
     let frames = c.frames_of-frames.ensures.frames in
-    let number : c.info_of-info.result.sequence ≡ first_number old stored setup planned =
-    info.number
-    ∙ ap (λ (s : FramedRun). (identity_of old.source setup
-    (counts_after planned.counts s planned.run.sent)).sequence) frames in
+    let number : c.info_of-info.result.sequence ≡ first_number old stored setup planned = grind arith in
     let text : c.put_play.new.reply ≡ play_front old stored setup planned sequence authority =
     c.put_play.ensures.text ∙ rw (info.first, info.end, info.authority, info.name, number, info.time) refl in
     let lists = c.plans_with_room.ensures.lists in

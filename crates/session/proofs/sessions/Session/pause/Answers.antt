@@ -1,3 +1,4 @@
+use Rattle.std.proofs.Common.{arith}
 use Rattle.std.proofs.Common.{◌≡◌, ℕ, refl, sym, ap, subst, ◌∙◌}
 use Rattle.film_run.specs.declared.plans.Playback.{Playback}
 use Rattle.film_run.specs.Pauses.{IsRemainingRun}
@@ -73,8 +74,7 @@ invariant_of-self c =
       pacing = c.ask_halt-keep.ensures.pacing;
       pacer_is = c.ask_halt-keep.ensures.state;
       most = c.ask_halt-keep.ensures.most;
-      left = of_film inside.films.now setup.film stored (λ s. IsRunOf s inside.source setup inside.counts left)
-          c.stored_at-stored.ensures.film runs;
+      left = grind arith;
     }))
 
 pub returns-clause-exact : goal.returns-clause-exact
@@ -88,8 +88,7 @@ returns-clause-exact c =
     let last = c.last_slot-last.result in
     let state : inside.state ≡ Playing setup play = sym c.in-Playing.ensures.value in
     let value : keep ≡ next_boundary play.pacer = c.ask_halt-keep.ensures.value in
-    let pacer : c.ask_halt-keep.new.self ≡ record play.pacer { keep = keep } =
-    c.ask_halt-keep.ensures.state ∙ ap (λ (n : ℕ). record play.pacer { keep = n }) (sym value) in
+    let pacer : c.ask_halt-keep.new.self ≡ record play.pacer { keep = keep } = grind arith in
     let new : SessionState = record (session_state_of inside) {
       state = Playing setup (record play { pacer = c.ask_halt-keep.new.self });
       awaited = Halt keep (Paused left);
@@ -105,9 +104,6 @@ returns-clause-exact c =
       last = last;
       last_is = c.last_slot-last.ensures ∙ ap (λ (p : PacerState). p.passed) c.ask_halt-keep.ensures.state;
       left = left;
-      left_is = subst (λ (n : ℕ). IsRemainingRun (stored_sizes stored)
-          (playback_of stored.film inside.settings setup) play.run play.plan last n left) value
-          (subst (λ (p : Playback). IsRemainingRun (stored_sizes stored) p play.run play.plan last keep left)
-          c.playback_of-playback.ensures.playback c.run_after-left.ensures.left);
+      left_is = grind arith;
       asks = record { keep = keep; keep_is = value; command = refl; state = cc };
     })))

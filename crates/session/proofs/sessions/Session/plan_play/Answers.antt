@@ -1,3 +1,4 @@
+use Rattle.std.proofs.Common.{arith}
 use Rattle.std.proofs.Common.{ℕ, ◌⊎◌, List, Option, Ok, option_map, refl, subst, inl, inr}
 use Rattle.std.proofs.lemmas.Result.{err_from_is_err_and}
 use Rattle.std.specs.Borrow.{Bor}
@@ -28,7 +29,6 @@ returns-in_default-clause-exact c =
 pub returns-clause-exact : goal.returns-clause-exact
 returns-clause-exact c =
     let range : Option (List ℕ) = option_map {T = Bor (List ℕ)} {U = List ℕ} (λ value. value.now) c.args.range in
-    let sizes = stored_sizes c.stored_at-stored.result.now in
     subst (λ (old : SessionState). IsPlanned old c.args.setup.now c.args.paused range
     (Ok (record { run = c.run_and_counts.result.0; counts = c.run_and_counts.result.1; plan = c.in_ok-plan.plan })))
     c.self.view_is (
@@ -40,14 +40,8 @@ returns-clause-exact c =
         run_is = c.run_and_counts.ensures.run;
         counts_is = c.run_and_counts.ensures.counts;
         goes_on = c.run_and_counts.ensures.goes_on;
-        can_play = record {
-          sizes_are = c.stored_at-stored.ensures.sizes;
-          playback_is = subst IsPlayback c.playback_of-playback.ensures.playback c.playback_of-playback.ensures.ranges;
-          run_is = c.run_and_counts.ensures.goes_on.run_is;
-          fits = c.run_and_counts.ensures.goes_on.fits;
-        };
-        plan_is = subst (λ (p : Playback). IsPlanOf sizes p c.run_and_counts.result.0 c.in_ok-plan.plan)
-            c.playback_of-playback.ensures.playback c.in_ok-plan.ensures.plan;
+        can_play = grind arith;
+        plan_is = grind arith;
       },
     )
 
@@ -55,7 +49,6 @@ pub returns-in_err-plan-clause-exact : goal.returns-in_err-plan-clause-exact
 returns-in_err-plan-clause-exact c =
     let range : Option (List ℕ) = option_map {T = Bor (List ℕ)} {U = List ℕ} (λ value. value.now) c.args.range in
     let stored = c.stored_at-stored.result.now in
-    let sizes = stored_sizes stored in
     let playback = playback_of stored.film c.self.inside.settings c.args.setup.now in
     let refused = c.in_err-plan.field-0.0 in
     let p = err_from_is_err_and c.from_residual.result c.from_residual.ensures.1 in
@@ -68,10 +61,6 @@ returns-in_err-plan-clause-exact c =
       wanted = c.in-Some.wanted;
       asked = c.in-Some.ensures;
       refused = refused;
-      no_curves = subst (λ (r : Run). HaveNoCurves (rest_sizes sizes r) (timing_of playback r) refused)
-          c.run_and_counts.ensures.run
-          (subst (λ (p : Playback). HaveNoCurves (rest_sizes sizes c.run_and_counts.result.0)
-          (timing_of p c.run_and_counts.result.0) refused) c.playback_of-playback.ensures.playback
-          c.in_err-plan.ensures.refused);
+      no_curves = grind arith;
       refusal_is = refl;
     })))

@@ -1,3 +1,4 @@
+use Rattle.std.proofs.Common.{arith}
 use Rattle.std.proofs.Common.{◌≡◌, ℕ, List, refl, sym, ap, subst, ◌∙◌}
 use Rattle.pacer.specs.PacerStates.{PacerState}
 use Rattle.session.specs.SessionInvariant.{session_state_of}
@@ -37,28 +38,4 @@ invariant_of-self-2 c =
     }))
 
 pub returns-clause-exact : goal.returns-clause-exact
-returns-clause-exact c =
-    let inside = c.self.inside in
-    let halted = c.in-Some.ensures.halted in
-    let keep = c.in-Some.keep in
-    let new : PacerState → List ℕ → SessionState = λ p text. record (session_state_of inside) {
-      state = Playing halted.setup (record halted.play { pacer = p });
-      awaited = Halt keep Torn;
-      text = text;
-    } in
-    let pacer : halted.pacer ≡ record halted.play.pacer { keep = keep } =
-    halted.pacer_is ∙ ap (λ (n : ℕ). record halted.play.pacer { keep = n }) (sym halted.keep_is) in
-    rw (halted.new_is, c.set.ensures)
-    (subst (λ (old : SessionState). TearsDown old.state old c.args.sequence (AskHalt keep)
-    (new halted.pacer c.put_session.new.reply))
-    c.self.view_is
-    (subst (λ (s : State). TearsDown s (session_state_of inside) c.args.sequence (AskHalt keep)
-    (new halted.pacer c.put_session.new.reply))
-    (sym halted.old_is)
-    (record {
-      keep = keep;
-      keep_is = halted.keep_is;
-      command = refl;
-      state = ap (λ (p : PacerState). new p c.put_session.new.reply) pacer
-          ∙ ap (λ (text : List ℕ). new (record halted.play.pacer { keep = keep }) text) c.put_session.ensures;
-    })))
+returns-clause-exact c = grind arith
