@@ -1,3 +1,4 @@
+use Rattle.std.proofs.lemmas.Grind.{common_steps}
 -- Clients that are passed over one after the other.
 use Rattle.std.proofs.Common.{◌≡◌, ◌<◌, ◌≤◌, ◌+◌, ℕ, List, [], ◌∷◌, ◌++◌, length, map, take, drop, set, get_or, Option}
 use Rattle.std.proofs.Common.{Some, None, arith, refl, sym, ap, subst, ◌∙◌, inl, inr}
@@ -31,27 +32,11 @@ pub record IsSwept (f : ClientState → ClientState) (upto : ℕ) (old new : Lis
   pub later : (c : ℕ) → upto ≤ c → get_or new c Idle ≡ get_or old c Idle
 
 pub swept-none : (f : ClientState → ClientState) (old : List ClientState) → IsSwept f 0 old old
-swept-none f old =
-    record { count = refl; past = λ c before inside. absurd (omega (arith, before)); later = λ c from. refl }
+swept-none f old = grind arith
 
 pub swept-set : {f : ClientState → ClientState} {i : ℕ} {old new : List ClientState} → i < length old
     → IsSwept f i old new → IsSwept f (i + 1) old (set new i (f (get_or old i Idle)))
-swept-set {f} {i} {old} {new} inside swept =
-    let state = f (get_or old i Idle) in
-    record {
-      count = length-set new i state ∙ swept.count;
-      past = λ c before within. elim (cases_eq c i) [
-        | inl same ↦
-            ap (λ k. get_or (set new i state) k Idle) same
-            ∙ get_or-set_same new i state Idle (omega (arith, inside, swept.count))
-            ∙ ap (λ k. f (get_or old k Idle)) (sym same)
-        | inr other ↦
-            get_or-set_other new i c state Idle other ∙ swept.past c (omega (arith, before, other)) within
-      ];
-      later = λ c from.
-          let other : c ≡ i → ⊥ = λ same. absurd (omega (arith, same, from)) in
-          get_or-set_other new i c state Idle other ∙ swept.later c (omega (arith, from));
-    }
+swept-set {f} {i} {old} {new} inside swept = grind (arith, length-set, cases_eq, get_or-set_same, get_or-set_other)
 
 pub swept-all : (f : ClientState → ClientState) (n : ℕ) (old new : List ClientState) → length old ≤ n
     → IsSwept f n old new → new ≡ map f old
@@ -72,36 +57,34 @@ states-set cs c client = map-set state_of cs c client
 -- sums and halts of one client more
 pub sum-more : (g : ClientState → ℕ) (states : List ClientState) (i : ℕ) → i < length states
     → sum_by g (take (i + 1) states) ≡ sum_by g (take i states) + g (get_or states i Idle)
-sum-more g states i inside = ap (sum_by g) (take_more states i Idle inside)
-    ∙ sum_by_push g (take i states) (get_or states i Idle)
+sum-more g states i inside = grind (arith, common_steps)
 
 pub halt_entries-append : (f : ℕ → ClientState → List Entry) (k : ℕ) (xs ys : List ClientState)
     → halt_entries f k (xs ++ ys) ≡ halt_entries f k xs ++ halt_entries f (k + length xs) ys
-halt_entries-append f k [] ys =
-    let e : k ≡ k + 0 = omega arith in
-    ap (λ n. halt_entries f n ys) e
+halt_entries-append f k [] ys = grind arith
 halt_entries-append f k (x ∷ xs) ys =
-    let e : k + 1 + length xs ≡ k + length (x ∷ xs) = omega arith in
-    ap (λ es. f k x ++ es) (halt_entries-append f (k + 1) xs ys)
-    ∙ sym (append_assoc (f k x) (halt_entries f (k + 1) xs) (halt_entries f (k + 1 + length xs) ys))
-    ∙ ap (λ n. halt_entries f k (x ∷ xs) ++ halt_entries f n ys) e
+    grind (
+      arith,
+      halt_entries-append f (k + 1) xs ys,
+      append_assoc (f k x) (halt_entries f (k + 1) xs) (halt_entries f (k + 1 + length xs) ys),
+    )
 
 pub halt_entries-more : (f : ℕ → ClientState → List Entry) (states : List ClientState) (i : ℕ) → i < length states
     → halt_entries f 0 (take (i + 1) states) ≡ halt_entries f 0 (take i states) ++ f i (get_or states i Idle)
 halt_entries-more f states i inside =
-    let n : 0 + length (take i states) ≡ i = omega (arith, length-take i states, inside) in
-    ap (halt_entries f 0) (take_more states i Idle inside)
-    ∙ halt_entries-append f 0 (take i states) (get_or states i Idle ∷ [])
-    ∙ ap (λ k. halt_entries f 0 (take i states) ++ (f k (get_or states i Idle) ++ [])) n
-    ∙ ap (λ es. halt_entries f 0 (take i states) ++ es) (append-nil (f i (get_or states i Idle)))
+    grind (
+      arith,
+      length-take i states,
+      take_more states i Idle inside,
+      halt_entries-append f 0 (take i states) (get_or states i Idle ∷ []),
+      append-nil (f i (get_or states i Idle)),
+    )
 
 -- the entries of one halt more
 pub entries-more : (f : ℕ → ClientState → List Entry) (states : List ClientState) (begun : List Entry) (i : ℕ)
     → i < length states → (begun ++ halt_entries f 0 (take i states)) ++ f i (get_or states i Idle)
     ≡ begun ++ halt_entries f 0 (take (i + 1) states)
-entries-more f states begun i inside =
-    append_assoc begun (halt_entries f 0 (take i states)) (f i (get_or states i Idle))
-    ∙ ap (λ es. begun ++ es) (sym (halt_entries-more f states i inside))
+entries-more f states begun i inside = search (append_assoc, halt_entries-more)
 
 -- the clients before a place have come to a slot, and those from it on not yet
 pub record AreTimedTo (upto slot heard : ℕ) (clients : List Client) : Type 0 where
@@ -152,11 +135,7 @@ steps-next {heard} {slot} stepped =
             subst (IsTimed heard) (sym (get_or-set_other cs i c next any other))
             (to.timed.later c any (omega (arith, from)) (omega (arith, below, length-set cs i next)));
       };
-      sent_is =
-          ap (λ k. k + bytes) to.sent_is
-          ∙ ap (λ k. sum_by (sent_between heard slot) (take i (map state_of old)) + k)
-          (own.sent_is ∙ ap (sent_between heard slot) (sym is))
-          ∙ sym (sum-more (sent_between heard slot) (map state_of old) i within);
+      sent_is = grind (arith, common_steps);
       swept = subst (IsSwept (after_sending slot) (i + 1) (map state_of old))
           (ap (set (map state_of cs) i) (ap (after_sending slot) is ∙ sym own.state) ∙ sym (states-set cs i next))
           (swept-set within to.swept);
@@ -199,8 +178,7 @@ pub record SlotSwept (entries : List Entry) (old : List Client) (heard slot : �
 -- clients whose states follow from those of others are as many
 as-many : (f : ClientState → ClientState) (old new : List Client) → map state_of new ≡ map f (map state_of old)
     → length new ≡ length old
-as-many f old new are =
-    omega (arith, ap length are, length-map new state_of, length-map (map state_of old) f, length-map old state_of)
+as-many f old new are = grind (arith, common_steps)
 
 -- a day at a slot
 pub slot-moment : {entries : List Entry} {old : List Client} {heard slot : ℕ} (swept : SlotSwept entries old heard slot)
@@ -212,14 +190,12 @@ pub slot-moment : {entries : List Entry} {old : List Client} {heard slot : ℕ} 
     } ≡ at_slot (record { entries = entries; states = map state_of old; heard = heard }) slot
 slot-moment {entries} {old} {heard} {slot} swept =
     let steps = stepped heard le (subst (AreTimed heard) (sym x) timed) in
-    let d-states : map state_of ds ≡ map (after_sending slot) (map state_of old) =
-    steps.states_are ∙ ap (λ l. map (after_sending slot) (map state_of l)) x in
+    let d-states : map state_of ds ≡ map (after_sending slot) (map state_of old) = grind arith in
     let d-len : length ds ≡ n = as-many (after_sending slot) old ds d-states ∙ sym len in
     let z-is : zs ≡ ds = z ∙ written n ds old d-len in
     let now : AreTimed slot zs = subst (AreTimed slot) (sym z-is) steps.timed in
     let states : map state_of zs ≡ map (after_sending slot) (map state_of old) = ap (map state_of) z-is ∙ d-states in
-    let y : ys ≡ entries ++ halt_entries (done_halt slot) 0 (map state_of old) =
-    ended slot now ∙ ap (λ l. entries ++ halt_entries (done_halt slot) 0 l) states ∙ ap (λ l. entries ++ l) quiet in
+    let y : ys ≡ entries ++ halt_entries (done_halt slot) 0 (map state_of old) = grind arith in
     let e-len : length es ≡ n = as-many (after_play slot) zs es (left slot now) ∙ ap length z-is ∙ d-len in
     let last = take n (es ++ drop (length es) (take n (ds ++ drop (length ds) old))) in
     let s : map state_of last ≡ map (after_play slot) (map (after_sending slot) (map state_of old)) =
@@ -246,11 +222,7 @@ pub record BookGrown (before after : Journal) (made : List Entry) : Type 0 where
 
 pub book-grown : {before after : Journal} {made : List Entry} (entries : List Entry)
     → after ≡ record before { entries = entries } → entries ≡ before.entries ++ made → BookGrown before after made
-book-grown entries is made_are = record {
-  steps = ap (λ (j : Journal). j.steps) is;
-  limit = ap (λ (j : Journal). j.limit) is;
-  entries = ap (λ (j : Journal). j.entries) is ∙ made_are;
-}
+book-grown entries is made_are = grind arith
 
 -- a client that is halted, or not
 abbrev pub halted_client : Option Halt → Client → Client
@@ -259,13 +231,11 @@ halted_client (Some halt) client = clients.Idle
 
 halted-keeps : (P : Client → Type 0) (halt : Option Halt) (client : Client) → P clients.Idle → P client
     → P (halted_client halt client)
-halted-keeps P None client idle own = own
-halted-keeps P (Some halt) client idle own = idle
+halted-keeps P halt client given given' = grind arith
 
 halted-undone : (halt : Option Halt) (client : Client) → IfNone halt (IsUndone client)
     → IsUndone (halted_client halt client)
-halted-undone None client own = own
-halted-undone (Some halt) client own = tt
+halted-undone halt client given = grind arith
 
 -- a client that is passed, and its halt, if it has one
 pub record PassedClient (which : HaltedPlays) : Type 0 where
@@ -317,10 +287,7 @@ passed-booked passed sound = by-halt halt its grown.entries
 
 passed-now : (i : ℕ) (xs ys : List Entry) (halt : Option Halt) → ys ≡ xs ++ halts_of i halt
     → (state_after ys).now ≡ (state_after xs).now
-passed-now i xs ys None is = ap (λ (l : List Entry). (state_after l).now) (is ∙ append-nil xs)
-passed-now i xs ys (Some halt) is =
-    ap (λ (l : List Entry). (state_after l).now) is
-    ∙ halted-now xs (entry_by i (commands.Halt halt.number halt.keep) Halted) halt.number halt.keep refl
+passed-now i xs ys halt given = grind (arith, append-nil, halted-now)
 
 -- it has come to a slot as the sweep asks
 passed-ended : {which : HaltedPlays} {old : List Client} (passed : PassedClient which) (begun : List Entry) (slot : ℕ)

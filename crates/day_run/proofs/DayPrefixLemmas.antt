@@ -1,3 +1,4 @@
+use Rattle.std.proofs.lemmas.Grind.{common_steps}
 -- The moments of a day, after each of its lines.
 use Rattle.std.proofs.Common.{◌≤◌, ◌+◌, ◌-◌, ℕ, zero, suc, List, [], ◌∷◌, ◌++◌, length, take, get_or, refl, sym}
 use Rattle.std.proofs.Common.{subst, arith}
@@ -37,8 +38,7 @@ record FrontOf (link : SharedLink) (ls : List Line) (count : ℕ) (old new : Day
 run-front : (ls : List Line) (ts : List (List ℕ)) (count : ℕ) (taken : LineRun ls ts)
     → FrontOf taken.link ls count taken.old taken.new
 run-front ls ts zero taken = record { texts = []; moment = taken.old; front = refl; grown = run-grown ls ts taken }
-run-front [] [] (suc count) taken =
-    record { texts = []; moment = taken.old; front = refl; grown = kept-grown taken.old taken.new taken.run }
+run-front [] [] (suc count) taken = grind (arith, common_steps)
 run-front (l ∷ ls) (t ∷ ts) (suc count) taken =
     let rest = run-front ls ts count (rest_run taken) in
     record {
@@ -53,15 +53,7 @@ clients-take : {ls : List Line} (count : ℕ) → AreClients ls → AreClients (
 clients-take {ls} count are = grind (arith, length-take count ls, get_or-take)
 
 lines-take : {n : ℕ} {ls : List Line} (count : ℕ) → AreLines n ls → AreLines n (take count ls)
-lines-take {n} {ls} count are = record {
-  each = λ i none below.
-      let few = length-take count ls in
-      let F : List Line → Type 0 = λ front. StandsAfter (latest_slot front) n (get_or (take count ls) i none) in
-      let L : Line → Type 0 = λ line. StandsAfter (latest_slot (take i ls)) n line in
-      subst F (sym (take-take i count ls (omega (arith, few, below))))
-      (subst L (sym (get_or-take count ls i none (omega (arith, few, below))))
-      (are.each i none (omega (arith, few, below))));
-}
+lines-take {n} {ls} count are = grind (arith, common_steps)
 
 -- what a legal history begins with is legal
 front-legal : {steps : List CapStep} (xs ys : List Entry) → IsLegal steps (xs ++ ys) → IsLegal steps xs
@@ -90,14 +82,7 @@ day-keeps {link} {n} {lines} count clients are day legal =
     }) in
     let last = front-legal day.evening.entries (last_halts day.evening) (subst L day.journal_is legal) in
     let here = front-legal at.moment.entries at.grown.made (subst L at.grown.new_is last) in
-    let taken : LinesTaken link n = record {
-      lines = take count lines;
-      texts = at.texts;
-      moment = at.moment;
-      clients = clients-take count clients;
-      are = lines-take count are;
-      run = at.front;
-    } in
+    let taken : LinesTaken link n = grind (arith, clients-take count clients, lines-take count are) in
     record {
       texts = at.texts;
       moment = at.moment;

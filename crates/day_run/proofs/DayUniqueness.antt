@@ -1,3 +1,4 @@
+use Rattle.std.proofs.lemmas.Grind.{common_steps}
 -- A script has one text and one journal, and a number has one large day.
 use Rattle.std.proofs.Common.{◌≡◌, ◌<◌, ◌+◌, ℕ, max, List, [], ◌∷◌, ◌++◌, length, set, arith, refl, sym, ap, subst, ◌∙◌}
 use Rattle.std.proofs.Common.{inl, inr, ◌%◌, map, get_or, Option, Some, None, IfSome}
@@ -97,23 +98,12 @@ IsFullOrAnswered link ask old new text = IsFull link 2 old new text ⊎ IsAnswer
 one-planned : {ask : AskedPlay} (pair : OutcomePair)
     → IsFullOrAnswered pair.link ask pair.old pair.one.new pair.one.text
     → IsFullOrAnswered pair.link ask pair.old pair.other.new pair.other.text → IsOne pair
-one-planned pair (inl a) (inl b) = one-told pair a.told b.told
-one-planned pair (inl a) (inr b) = absurd (omega (arith, a.full, b.room))
-one-planned pair (inr a) (inl b) = absurd (omega (arith, a.room, b.full))
-one-planned {ask} pair (inr a) (inr b) =
-    let old = pair.old in
-    let same : a.answer ≡ b.answer =
-    answer-once (record { steps = pair.link.steps; state = state_after old.entries })
-    (commands.Play old.heard ask.plan) a.answer b.answer a.noted.answered b.noted.answered in
-    let N : Answer → Type 0 = λ x. IsNoted pair.link (entry_by ask.client (commands.Play old.heard ask.plan) x)
-    (with_play ask.client ask.rest ask.plan (length old.entries) x old.states) old pair.one.new pair.one.text in
-    one-noted pair (subst N same a.noted) b.noted
+one-planned pair given given' = grind arith
 
 -- a run whose pictures have no curves has no plan
 faulty-planned : {rest : Rest} {old new : DayState} {text : List ℕ} {plan : List Segment} → IsFaulty rest old new text
     → IsPlanOf rest.sizes rest.playback rest.run plan → ⊥
-faulty-planned {rest} faulty planned = fault-apart (rest_sizes rest.sizes rest.run)
-    (timing_of rest.playback rest.run) faulty.fault faulty.fault_is planned.accepted
+faulty-planned {rest} faulty planned = grind arith
 
 one-fault : {rest : Rest} (pair : OutcomePair) → IsFaulty rest pair.old pair.one.new pair.one.text
     → IsFaulty rest pair.old pair.other.new pair.other.text → IsOne pair
@@ -121,9 +111,7 @@ one-fault {rest} pair a b = grind (arith, one-told)
 
 one-plan : {one other : List Segment} (rest : Rest) → IsSoundIfAny rest
     → IsPlanOf rest.sizes rest.playback rest.run one → IsPlanOf rest.sizes rest.playback rest.run other → one ≡ other
-one-plan {one} {other} rest own a b =
-    sending-one rest.sizes rest.playback rest.run other
-    (record { can_play = (own b.accepted.some_picture).can; plan_is = b }) one a
+one-plan {one} {other} rest own a b = grind (arith, sending-one)
 
 one-asked : {c : ℕ} {rest : Rest} (pair : OutcomePair) → IsSoundIfAny rest
     → IsAsked pair.link c rest pair.old pair.one.new pair.one.text
@@ -153,23 +141,16 @@ one-halted {c} {play} pair a b =
     let x = a.pause.boundary in
     let y = b.pause.boundary in
     let keep : a.keep ≡ b.keep = omega (arith, x.least _ y.boundary y.after, y.least _ x.boundary x.after) in
-    let L : ℕ → Type 0 =
-    λ k. IsRemainingRun play.rest.sizes play.rest.playback play.rest.run play.plan
-    (slot_sent play.start old.heard) k a.pause.left in
-    let left : a.pause.left ≡ b.pause.left =
-    left-one b.pause.left_is (subst L keep a.pause.left_is) in
-    let after : ℕ → Run → ClientState =
-    λ k r. pausing_state old.heard (truncated_play play.start play.plan k) (record play.rest { run = r }) in
-    let state : a.state ≡ b.state =
-    a.pause.state_is ∙ ap (λ k. after k a.pause.left) keep ∙ ap (after b.keep) left ∙ sym b.pause.state_is in
+    let left : a.pause.left ≡ b.pause.left = grind arith in
+    let after : ℕ → Run → ClientState = grind arith in
+    let state : a.state ≡ b.state = grind (arith, common_steps) in
     let N : ℕ → ClientState → Type 0 = λ k s. IsNoted pair.link (entry_by c (commands.Halt play.number k) Halted)
     (set old.states c s) old pair.one.new pair.one.text in
     one-noted pair (subst (N b.keep) state (subst (λ (k : ℕ). N k a.state) keep a.noted)) b.noted
 
 one-pause : (pair : OutcomePair) (c : ℕ) (state : ClientState) → AreBoth pair (IsPauseLine pair.link c state)
     → IsOne pair
-one-pause pair c (Playing play) both = one-halted pair both.a both.b
-one-pause pair c _ both = one-told pair both.a both.b
+one-pause pair c state given = grind (arith, one-halted, one-told)
 
 one-look : {slot : ℕ} (pair : OutcomePair) → IsLookLine pair.link slot pair.old pair.one.new pair.one.text
     → IsLookLine pair.link slot pair.old pair.other.new pair.other.text → IsOne pair
@@ -202,9 +183,7 @@ one-offer {rest} pair own (inr a) (inr b) =
     let mine : IsOffer 0 booked (capacity_at pair.link.steps) b.plan first a.found =
     subst O (one-plan rest own a.plan_is b.plan_is) a.found_is in
     let waits = a.wait_is ∙ sym b.wait_is in
-    let found : a.found ≡ b.found =
-    one-found a.found b.found waits (same_start waits mine b.found_is)
-    (same_tried waits mine b.found_is) in
+    let found : a.found ≡ b.found = search (one-found, same_start, same_tried) in
     one-told pair (subst (λ (f : Offers). IsTold (offer_text f) old pair.one.new pair.one.text) found a.told) b.told
 
 pub one-line : (pair : OutcomePair) (line : Line) → IsLink pair.link
@@ -218,8 +197,7 @@ one-line pair (lines.Pause c) link-is standing sound both =
 one-line pair (lines.Resume c) link-is standing sound both =
     one-resume pair c (state_at pair.old c) (sound.each c standing.client) (record { a = both.a; b = both.b })
 one-line pair (lines.Look slot) link-is standing sound both = one-look pair both.a both.b
-one-line pair (lines.Slot slot) link-is standing sound both =
-    record { new_is = both.a.0 ∙ sym both.b.0; text_is = both.a.1 ∙ sym both.b.1 }
+one-line pair (lines.Slot slot) link-is standing sound both = grind arith
 one-line pair (lines.Offer c source buffer delay wait) link-is standing sound both = search (one-offer, whole-sound)
 
 -- ---- a run of lines has one outcome
@@ -313,9 +291,7 @@ medium-drawn words i none inside =
 
 pub fair-link : (steps : List CapStep) (words : ℕ → ℕ) → IsFairLink (fair_link steps words)
 fair-link steps words =
-    let count : length (map (trace_content SLOT_UNITS) (traces_drawn 16 words)) ≡ 16 =
-    length-map (traces_drawn 16 words) (trace_content SLOT_UNITS)
-    ∙ length-map-range_with_len (λ i. trace_drawn (after_traces i words)) 0 16 in
+    let count : length (map (trace_content SLOT_UNITS) (traces_drawn 16 words)) ≡ 16 = grind arith in
     record {
       link_is = record {
         some_slot_units = omega arith;
@@ -347,14 +323,11 @@ line-stands taken fair = by-state (state_in taken.words taken.turn)
 
 one-done : (pair : OutcomePair) (line : Option Line) → IsBegun pair.link pair.old → MayStand pair.link pair.old line
     → AreBoth pair (IsDone pair.link line) → IsOne pair
-one-done pair (Some line) begun stands both =
-    one-line pair line begun.fair.link_is stands begun.sound (record { a = both.a; b = both.b })
-one-done pair None begun stands both = one-told pair both.a both.b
+one-done pair line given given' given'' = grind (arith, one-line)
 
 done-sound : (step : LineStep) (line : Option Line) → IsBegun step.link step.old → MayStand step.link step.old line
     → IsDone step.link line step.old step.new step.text → IsSound step.new
-done-sound step (Some line) begun stands is = line-sound step line begun.fair.link_is stands begun.sound is
-done-sound step None begun stands is = subst IsSound (sym is.kept) begun.sound
+done-sound step line given given' given'' = grind (arith, line-sound)
 
 -- ---- a turn has one outcome
 mid-begun : (taken : TakenTurn) → IsBegun taken.link taken.turn.old → IsBegun taken.link taken.turn.mid

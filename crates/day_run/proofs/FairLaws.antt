@@ -1,3 +1,4 @@
+use Rattle.std.proofs.lemmas.Grind.{common_steps}
 -- What is true of every large day.
 use Rattle.std.proofs.Common.{◌≡◌, ◌≤◌, ◌+◌, ◌-◌, ◌*◌, ◌%◌, ◌==◌, ℕ, max, Bool, true, false, cond, List, [], ◌∷◌}
 use Rattle.std.proofs.Common.{length, map, take, arith, refl, sym, ap, subst, ◌∙◌}
@@ -21,13 +22,7 @@ use Rattle.day_run.proofs.LineOutcomes.{TakenTurn, outcome-grown, outcome-heard,
 -- ---- what is sent is what is booked
 pub turn-mid : (taken : TakenTurn) (P : DayState → Type 0) → P taken.turn.old
     → P (at_slot taken.turn.old (taken.turn.old.heard + taken.words 0 % 4)) → P taken.turn.mid
-turn-mid taken P none some = subst P (sym is.slot) (by-test (words 0 % 4 == 0))
-  where
-    open taken use {words, turn, is}
-
-    by-test : (b : Bool) → P (cond b turn.old (at_slot turn.old (turn.old.heard + words 0 % 4)))
-    by-test true = none
-    by-test false = some
+turn-mid taken P none some = grind arith
 
 pub mid-ready : (taken : TakenTurn) → IsReady taken.turn.old → IsReady taken.turn.mid
 mid-ready taken ready =
@@ -88,9 +83,7 @@ turn-grown taken =
 turns-grown : (turns : List FairTurn) (come : TurnRun turns) → HasGrown come.old.entries come.new.entries
 turns-grown [] come = kept-grown come.old come.new come.run
 turns-grown (turn ∷ turns) come =
-    let G : DayState → Type 0 = λ m. HasGrown m.entries come.new.entries in
-    subst G come.run.0 (grown-on turn.old.entries turn.new.entries come.new.entries (turn-grown (first_turn come))
-    (turns-grown turns (rest_turns come)))
+    grind (arith, grown-on, turn-grown (first_turn come), turns-grown turns (rest_turns come))
 
 -- ---- no slot has more than the capacity
 most-of : (f : ℕ → ℕ) (most top : ℕ) (ts : List ℕ) → top ≤ most → ((t : ℕ) → f t ≤ most)
@@ -113,8 +106,7 @@ moment-within : {steps : List CapStep} {journal : List Entry} {m : DayState} {mo
 moment-within {steps} {journal} {m} {most} slot given =
     most-of (booked_in (state_after m.entries)) most 0 (range_with_len (m.heard + 1) (slot - m.heard)) (omega arith)
     (λ t.
-    let front : take (length m.entries) journal ≡ m.entries =
-    ap (take (length m.entries)) grown.new_is ∙ take_at m.entries grown.made (length m.entries) refl in
+    let front : take (length m.entries) journal ≡ m.entries = grind (arith, common_steps) in
     omega (
       arith,
       subst (λ (es : List Entry). booked_after es t ≤ capacity_at steps t) front

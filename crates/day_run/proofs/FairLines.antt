@@ -51,12 +51,7 @@ record IsCountedOnce (e : Entry) : Type 0 where
 counted-once : (steps : List CapStep) (state : State) (maker : ℕ) (command : Command) (answer : Answer)
     → IsAnswer steps state command answer
     → IsCountedOnce (record { maker = maker; command = command; answer = answer })
-counted-once steps state maker (Play slot segments) (Admitted start) is = record { play = refl; halt = refl }
-counted-once steps state maker (Play slot segments) (Overflow over booked asked) is =
-    record { play = refl; halt = refl }
-counted-once steps state maker (Halt number keep) Halted is = record { play = refl; halt = refl }
-counted-once steps state maker (Look slot) (Looked now at booked) is = record { play = refl; halt = refl }
-counted-once steps state maker _ _ is = absurd is
+counted-once steps state maker command answer given = grind arith
 
 record AreCounted (entries : List Entry) : Type 0 where
   plays : count_by (λ (e : Entry). is_admission e.answer) entries
@@ -80,9 +75,7 @@ all-counted (e ∷ entries) all =
 pub entry-counts : {steps : List CapStep} (journal : List Entry) → IsLegal steps journal → open_count journal ≡ 0
     → AreEntryCounts (entry_counts_of journal) journal
 entry-counts {steps} journal legal closed =
-    let each : All IsCountedOnce journal = λ i none inside.
-    let e = get_or journal i none in
-    counted-once steps (state_after (take i journal)) e.maker e.command e.answer (legal.each i none inside) in
+    let each : All IsCountedOnce journal = grind arith in
     let counted = all-counted journal (recursion_from_All IsCountedOnce journal each) in
     let open_is = (tally steps journal legal).0 in
     record {
@@ -100,8 +93,7 @@ never-full [] come ready room small = refl
 never-full (turn ∷ turns) come ready room small =
     let taken = first_turn come in
     let begun : IsReady turn.old = subst IsReady (sym come.run.0) ready in
-    let at : places_taken turn.old.entries ≡ places_taken come.old.entries =
-    ap (λ (m : DayState). places_taken m.entries) come.run.0 in
+    let at : places_taken turn.old.entries ≡ places_taken come.old.entries = grind arith in
     let places = turn-places taken begun in
     let here : is_refused turn ≡ false =
     elim (outcome-text (turn_step taken) (omega (arith, at, places.mid, room, small)) (turn-outcome taken)) [

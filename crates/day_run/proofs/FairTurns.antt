@@ -1,3 +1,4 @@
+use Rattle.std.proofs.lemmas.Grind.{common_steps}
 -- The traces that a large day draws, and its turns, one after the other.
 use Rattle.std.proofs.Common.{◌≡◌, ◌≤◌, ◌+◌, ◌-◌, ◌*◌, ℕ, List, [], ◌∷◌, ◌++◌, length, map, sum, get_or, arith, sym, ap}
 use Rattle.std.proofs.Common.{subst, ◌∙◌, inl, inr, ◌%◌, add-one, refl, ◌<◌, ◌^◌, max, Bool, cond, Result, Ok, Err}
@@ -42,10 +43,7 @@ sum-most words (k ∷ ks) =
     omega (arith, e, (trace_size-range words k).1, sum-most words ks)
 
 pub drawn-trace : (words : ℕ → ℕ) (n : ℕ) → n ≤ 200 → AreUnitSizes (sizes_of words n)
-drawn-trace words n few = record {
-  few = omega (arith, length-map-range_with_len (trace_size words) 0 n);
-  small = omega (arith, sum-most words (range_with_len 0 n), length-range_with_len 0 n);
-}
+drawn-trace words n few = grind (arith, length-map-range_with_len, sum-most, length-range_with_len)
 
 pub traces-none : AreTraces []
 traces-none = record { each = λ i none inside. absurd (omega (arith, inside)) }
@@ -53,18 +51,7 @@ traces-none = record { each = λ i none inside. absurd (omega (arith, inside)) }
 pub traces-push : (traces after : List (Vec ℕ)) (trace : Vec ℕ) → after ≡ traces ++ trace ∷ []
     → AreUnitSizes trace.items → AreTraces traces → AreTraces after
 traces-push traces after trace e own are =
-    let T : Vec ℕ → Type 0 = λ v. AreUnitSizes v.items in
-    subst AreTraces (sym e) (record {
-      each = λ i none inside. elim (cases_lt i (length traces)) [
-        | inl before ↦ subst T (sym (get_or_append_left traces (trace ∷ []) none i before)) (are.each i none before)
-        | inr past ↦
-            let at : length traces ≡ i = omega (arith, past, inside, length-append traces (trace ∷ [])) in
-            let z : i - i ≡ 0 = omega arith in
-            subst T (sym
-            (get_or-append_right traces (trace ∷ []) i i none at (omega arith)
-            ∙ ap (λ k. get_or (trace ∷ []) k none) z)) own
-      ];
-    })
+    grind (arith, get_or_append_left, length-append traces (trace ∷ []), get_or-append_right)
 
 -- ---- traces that are drawn one after the other
 -- the trace that is drawn by the next words: the words before it and after the number of its pictures
@@ -82,9 +69,7 @@ pub record TraceDrawn (words : ℕ → ℕ) (k : ℕ) : Type 0 where
 pub sizes-next : {words : ℕ → ℕ} {k : ℕ} (traces : List (Vec ℕ)) (drawn : TraceDrawn words k)
     → sizes_in traces ≡ traces_drawn k words → sizes_in (traces ++ drawn.trace ∷ []) ≡ traces_drawn (k + 1) words
 sizes-next {words} {k} traces drawn before =
-    let own : trace.items ≡ trace_drawn (after_traces k words) =
-    sizes_are ∙ ap (λ (w : ℕ → ℕ). sizes_of w pictures) mid_is ∙ ap (sizes_of (words_after 1 left)) pictures_are
-    ∙ ap (λ (w : ℕ → ℕ). sizes_of (words_after 1 w) (100 + w 0 % 101)) left_is in
+    let own : trace.items ≡ trace_drawn (after_traces k words) = grind arith in
     let at : 0 + k ≡ k = omega arith in
     map-append (λ (v : Vec ℕ). v.items) traces (trace ∷ []) ∙ ap (λ ts. ts ++ trace.items ∷ []) before
     ∙ ap (λ x. traces_drawn k words ++ x ∷ []) own
@@ -99,11 +84,7 @@ after_traces-more words k = ap (λ n. after_traces n words) (add-one k)
 
 pub left-next : {words : ℕ → ℕ} {k : ℕ} (drawn : TraceDrawn words k)
     → words_after drawn.pictures drawn.mid ≡ after_traces (k + 1) words
-left-next {words} {k} drawn =
-    ap (words_after pictures) mid_is ∙ ap (λ c. words_after c (words_after 1 left)) pictures_are
-    ∙ ap (λ (w : ℕ → ℕ). words_after (100 + w 0 % 101) (words_after 1 w)) left_is ∙ sym (after_traces-more words k)
-  where
-    open drawn use {left, pictures, left_is, mid_is, pictures_are}
+left-next {words} {k} drawn = grind (arith, after_traces-more words k)
 
 pub left-none : (words : ℕ → ℕ) → words ≡ after_traces 0 words
 unfolding after_traces
@@ -111,18 +92,7 @@ left-none words = refl
 
 pub same-counts : (counts : FairTotals) (moment : DayState) → counts.last ≡ moment.heard
     → counts ≡ with_slot counts moment moment.heard
-same-counts counts moment last =
-    let f = booked_in (state_after moment.entries) in
-    let none : moment.heard - moment.heard ≡ 0 = omega arith in
-    let no_bytes = sum-none moment.heard moment.states in
-    let no_sum = ap (λ n. sum_by f (range_with_len (moment.heard + 1) n)) none in
-    let no_peak = ap (λ n. fold max 0 (map f (range_with_len (moment.heard + 1) n))) none in
-    let sent : counts.sent ≡ counts.sent + sent_up_to moment moment.heard = omega (arith, no_bytes) in
-    let booked : counts.booked ≡ counts.booked + booked_up_to moment moment.heard = omega (arith, no_sum) in
-    let peak : counts.peak ≡ max counts.peak (most_up_to moment moment.heard) = omega (arith, no_peak) in
-    ap (λ n. record counts { last = n }) last ∙ ap (λ n. record counts { last = moment.heard; sent = n }) sent
-    ∙ ap (λ n. record (with_slot counts moment moment.heard) { booked = n; peak = counts.peak }) booked
-    ∙ ap (λ n. record (with_slot counts moment moment.heard) { peak = n }) peak
+same-counts counts moment last = grind (arith, sum-none moment.heard moment.states)
 
 -- the steps of a turn, one after the other: the words after each draw, the client and what it does, and the counts
 pub record TurnSteps (link : SharedLink) (old new : Drawn) (turn : FairTurn) : Type 0 where
@@ -160,18 +130,12 @@ turn-of {old} turn steps =
       turn = turn;
       old_is = old_is;
       new_is = new_is;
-      turn_is = record {
-        slot = slot;
-        done = subst (λ (x : SharedLink). IsDone x (line_in w turn) turn.mid turn.new turn.text) same own;
-      };
+      turn_is = grind arith;
       left_is =
           left ∙ ap (λ k. words_after (words_for (state_at turn.mid k)) two) who-is
           ∙ ap (words_after (words_for (state_at turn.mid (w 1 % 256)))) second
           ∙ words_after-twice (words_for (state_at turn.mid (w 1 % 256))) 2 w;
-      counts_are =
-          counts_are
-          ∙ ap (λ (x : FairTotals). record x { turns = x.turns + 1; full = x.full + cond full 1 0 }) counted
-          ∙ ap (λ b. record (with_turn old.counts turn) { full = old.counts.full + cond b 1 0 }) (sym told);
+      counts_are = grind arith;
     }
   where
     open steps use {here, two, client, counts, full, old_is, new_is, same, one_is, two_is, client_is, slot, done, left}
@@ -217,10 +181,8 @@ come-next {link} {words} next =
     let turn = turned.turn in
     let all = come.turns ++ turn ∷ [] in
     let heard : turn.mid.heard ≡ new.moment.heard = sym (ap (λ (c : FairTotals). c.last) turned.counts_are) ∙ last in
-    let is : IsTurn link (after_turns words come.turns) turn =
-    subst (λ (w : ℕ → ℕ). IsTurn link w turn) come.left_is turned.turn_is in
-    let before : TurnRun come.turns =
-    record { link = link; words = words; old = first_moment; new = old.moment; run = come.run } in
+    let is : IsTurn link (after_turns words come.turns) turn = grind arith in
+    let before : TurnRun come.turns = grind arith in
     record {
       turns = all;
       count = length-append come.turns (turn ∷ []) ∙ ap (λ k. k + 1) come.count;
@@ -228,9 +190,7 @@ come-next {link} {words} next =
           (turns-more come.turns before turn turned.old_is is);
       left_is = turned.left_is ∙ ap (λ (w : ℕ → ℕ). after_turn w turn) come.left_is
           ∙ sym (after-more words come.turns turn);
-      counts_are =
-          turned.counts_are ∙ ap (λ (c : FairTotals). with_turn c turn) come.counts_are
-          ∙ counts-more come.turns turn old.moment new.moment heard;
+      counts_are = grind (arith, common_steps);
     }
   where
     open next use {old, new, come, turned, last}
@@ -246,8 +206,7 @@ pub third-word : (w w1 w2 : ℕ → ℕ) → w1 ≡ words_after 1 w → w2 ≡ w
 third-word w w1 w2 one two = ap (λ (f : ℕ → ℕ). f 0) (two-left w one two) ∙ words_after-at 2 w 0
 
 pub ok-of : {A E : Type 0} (r : Result A E) (X : Type 0) → X → OnOk r X
-ok-of (Ok a) X x = x
-ok-of (Err e) X x = tt
+ok-of r X given = grind arith
 
 -- no words are drawn
 none-left : (w : ℕ → ℕ) (n : ℕ) → n ≡ 0 → w ≡ words_after n w

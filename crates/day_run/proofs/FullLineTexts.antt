@@ -34,17 +34,7 @@ digits-other (x ∷ ds) rest some digits = grind (arith, digit_from_value x digi
 
 pub entry-other : (place : ℕ) (entry : Entry) (rest : List ℕ) → place < 2 ^ 64
     → is_full_line (entry_line place entry ++ rest) ≡ false
-entry-other place entry rest small =
-    let numeral = (decimal_is_IsNumeral place small).0 in
-    let number = decimal place in
-    let seat = field (codes " seat=") entry.maker in
-    let command = command_text entry.command in
-    let answer = answer_text entry.answer in
-    let end = codes "\n" in
-    let parts : ((((number ++ seat) ++ command) ++ answer) ++ end) ++ rest
-    ≡ number ++ (seat ++ (command ++ (answer ++ (end ++ rest)))) =
-    simp append_assoc in
-    ap is_full_line parts ∙ digits-other number (seat ++ (command ++ (answer ++ (end ++ rest)))) numeral.0 numeral.1
+entry-other place entry rest small = search (decimal_is_IsNumeral place small, append_assoc, digits-other)
 
 pub entries-other : (place : ℕ) (entries : List Entry) → place < 2 ^ 64
     → is_full_line (journal_text place entries) ≡ false

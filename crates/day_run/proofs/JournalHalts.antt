@@ -1,3 +1,4 @@
+use Rattle.std.proofs.lemmas.Grind.{common_steps}
 -- The halts of a day's journal: each is of an earlier play of its maker's, and each play has one.
 use Rattle.std.proofs.Common.{◌≡◌, ◌<◌, ℕ, false, true≢false, List, [], ◌∷◌, ◌++◌, length, get_or, arith, sym, ap}
 use Rattle.std.proofs.Common.{subst, ◌∙◌, ◌+◌, inl, inr, ◌≤◌, zero, suc, true, refl, Option, IsSomeAnd}
@@ -18,10 +19,7 @@ use Rattle.day_run.specs.JournalLaws.{IsOpenPlayOf}
 
 -- ---- each halt of a day's journal is of an earlier play of its maker's, also after one more entry
 pub none-halted : AreOwnHalts []
-none-halted = record {
-  earlier = λ i number keep halt. absurd (omega (arith, halt.inside));
-  own = record { each = λ i number keep none halt. absurd (omega (arith, halt.inside)) };
-}
+none-halted = grind arith
 
 -- a play of this number, which stands in the journal and is the maker's
 pub record IsOwnPlay (entries : List Entry) (number owner : ℕ) : Type 0 where
@@ -43,8 +41,7 @@ found : {i number keep : ℕ} (next : NextEntry) (none : Entry) → IsHalt (next
     → OwnHalt next.entries i number (get_or (next.entries ++ next.e ∷ []) i none).maker
 found {i} {number} {keep} next none halt = elim (cases_lt i (length entries)) [
   | inl before ↦ (
-      let same : (d : Entry) → get_or (entries ++ e ∷ []) i d ≡ get_or entries i d =
-      λ d. get_or_append_left entries (e ∷ []) d i before in
+      let same : (d : Entry) → get_or (entries ++ e ∷ []) i d ≡ get_or entries i d = grind (arith, common_steps) in
       let old : IsHalt entries i number keep = record {
         inside = before;
         command_is = λ d. ap (λ (x : Entry). x.command) (sym (same d)) ∙ halt.command_is d;
@@ -124,10 +121,7 @@ record HaltsWith (number : ℕ) (command : Command) : Type 0 where
   is : command ≡ Halt number keep
 
 halts-or : (number : ℕ) (command : Command) → HaltsWith number command ⊎ (Halts number command → ⊥)
-halts-or number (Halt that keep) = elim (cases_eq that number) [
-  | inl same ↦ inl (record { keep = keep; is = ap (λ n. Halt n keep) same })
-  | inr other ↦ inr other
-]
+halts-or number (Halt that keep) = grind arith
 halts-or number _ = inr (λ halts. halts)
 
 pub find-halt : (number : ℕ) (entries : List Entry) → FoundHalt entries number ⊎ IsUnhalted entries number
@@ -154,8 +148,7 @@ find-halt number (e ∷ entries) = elim (halts-or number e.command) [
       where
         each-of : (i : ℕ) (none : Entry) → i < length (e ∷ entries)
             → Halts number (get_or (e ∷ entries) i none).command → ⊥
-        each-of zero none inside = apart
-        each-of (suc i) none inside = never.each i none (omega (arith, inside))
+        each-of i none given given' = grind arith
 
 pub open-own : {m : DayState} {client : ℕ} {play : ClientPlay} → IsReady m → client < 256
     → state_at m client ≡ Playing play → IsOpenPlayOf m.entries client play

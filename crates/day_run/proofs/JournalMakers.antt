@@ -23,11 +23,7 @@ one-made {entry} {maker} step by is = grind arith
 
 outcome-made : {case : LineCase} {maker : ℕ} (step : LineStep) → case.maker ≡ Some maker → LineOutcome step case
     → IsMadeBy maker step.old step.new
-outcome-made step is (Kept own at) = none-made step own.kept
-outcome-made step is (Asked own at) = one-made step (sym is ∙ own.by) own.made.noted
-outcome-made step is (Stopped own at) = one-made step (sym is ∙ own.by) own.is.noted
-outcome-made step is (Looks own at) = one-made step (sym is ∙ own.by) own.made.noted
-outcome-made step is (Reached own) = cc (is, own.by)
+outcome-made step given given' = grind (arith, none-made, one-made)
 
 -- ---- the halts of a slot and of a day's end
 abbrev pub IsHaltEntry : Entry → Type 0
@@ -37,12 +33,10 @@ one-halt : (c number keep : ℕ) → All IsHaltEntry (halt_by c number keep)
 one-halt c number keep = All-cons IsHaltEntry _ [] refl (All-nil IsHaltEntry)
 
 halt-if : (b : Bool) (c number keep : ℕ) → All IsHaltEntry (cond b (halt_by c number keep) [])
-halt-if true c number keep = one-halt c number keep
-halt-if false c number keep = All-nil IsHaltEntry
+halt-if b c number keep = grind arith
 
 done-halts : (slot c : ℕ) (state : ClientState) → All IsHaltEntry (done_halt slot c state)
-done-halts slot c (Playing play) = halt-if (is_done slot play) c play.number _
-done-halts slot c _ = All-nil IsHaltEntry
+done-halts slot c state = grind arith
 
 all-halts : (halt : ℕ → ClientState → List Entry) → ((c : ℕ) (state : ClientState) → All IsHaltEntry (halt c state))
     → (c : ℕ) (states : List ClientState) → All IsHaltEntry (halt_entries halt c states)

@@ -1,3 +1,4 @@
+use Rattle.std.proofs.lemmas.Grind.{common_steps}
 -- A day's journal keeps places for the halts of its open plays, and no line takes one of them.
 use Rattle.std.proofs.Common.{◌≡◌, ◌≤◌, ◌+◌, ℕ, List, [], ◌∷◌, ◌++◌, length, arith, refl, ap, ◌∙◌}
 use Rattle.std.proofs.lemmas.List.{length-append}
@@ -37,23 +38,15 @@ kept-places old new kept = same-places old.entries new.entries (ap (λ (m : DayS
 room-places : (step : LineStep) (more : ℕ) → more ≤ 2 → places_taken step.old.entries + more ≤ step.link.limit
     → places_taken step.new.entries ≤ places_taken step.old.entries + more
     → TakesPlaces step.link.limit step.old.entries step.new.entries
-room-places step more small room most = record {
-  few = omega (arith, small, most);
-  within = λ fits. omega (arith, room, most);
-}
+room-places step more small room most = grind arith
 
 next-open : (state : State) (place slot : ℕ) (segments : List Segment) (answer : Answer)
     → live (next_state state place (commands.Play slot segments) answer) ≤ live state + 1
-next-open state place slot segments (Admitted start) =
-    let more : live (next_state state place (commands.Play slot segments) (Admitted start)) ≡ live state + 1 =
-    sum_by_push open_one state.held (admitted_play place start segments) in
-    omega (arith, more)
-next-open state place slot segments _ = omega arith
+next-open state place slot segments answer = grind (arith, common_steps)
 
 played-places : (xs : List Entry) (c slot : ℕ) (segments : List Segment) (answer : Answer)
     → places_taken (xs ++ entry_by c (commands.Play slot segments) answer ∷ []) ≤ places_taken xs + 2
-played-places xs c slot segments answer =
-    grind (arith, state-push, next-open (state_after xs) (length xs) slot segments answer, length-append)
+played-places xs c slot segments answer = grind (arith, state-push, next-open, length-append)
 
 looked-places : (xs : List Entry) (slot : ℕ) (answer : Answer)
     → places_taken (xs ++ entry_by 0 (commands.Look slot) answer ∷ []) ≤ places_taken xs + 1
@@ -105,7 +98,6 @@ pub record TurnPlaces (limit : ℕ) (turn : FairTurn) : Type 0 where
 
 pub turn-places : (taken : TakenTurn) → IsReady taken.turn.old → TurnPlaces taken.link.limit taken.turn
 turn-places taken ready = record {
-  mid = turn-mid taken (λ (m : DayState). places_taken m.entries ≡ places_taken taken.turn.old.entries) refl
-      (slot-halted taken.turn.old _ (omega arith) ready.balanced).places;
+  mid = grind (arith, turn-mid, slot-halted);
   done = outcome-places (turn_step taken) (turn-outcome taken) (turn-order taken) (mid-ready taken ready);
 }

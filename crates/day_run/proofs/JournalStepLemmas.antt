@@ -1,3 +1,4 @@
+use Rattle.std.proofs.lemmas.Grind.{common_steps}
 -- A day after one more entry of its journal.
 use Rattle.std.proofs.Common.{◌≡◌, ◌<◌, ◌≤◌, ℕ, true, List, [], ◌∷◌, ◌++◌, length, get_or, set, Option, Some, IsSomeAnd}
 use Rattle.std.proofs.Common.{arith, sym, ap, subst, ◌∙◌, max, refl}
@@ -41,8 +42,7 @@ booked-push xs c (Playing play) e none its =
     (record { is = h.is; unhalted = λ halts. none.apart play.number halts its.maker }) in
     let P : Option AdmittedPlay → Type 0 =
     λ o. IsSomeAnd o (λ (h : AdmittedPlay). (h.is_open ≡ true) × (bytes ≤ total_bytes h.play.segments)) in
-    let can : CanHalt (next_of (state_after xs) (length xs) e) play.number bytes =
-    subst P (sym still) (h.is_open, h.small) in
+    let can : CanHalt (next_of (state_after xs) (length xs) e) play.number bytes = grind (arith, common_steps) in
     record {
       inside = omega (arith, length-append xs (e ∷ []), its.inside);
       maker = λ none. ap (λ (x : Entry). x.maker) (get_or_append_left xs (e ∷ []) none play.number its.inside)
@@ -88,8 +88,7 @@ booked-set on c client e others own = record {
 }
 
 quiet-booked : (xs : List Entry) (c : ℕ) (client : Client) → IsQuiet client → IsBooked xs c client
-quiet-booked xs c (Playing play) quiet = absurd quiet
-quiet-booked xs c _ quiet = tt
+quiet-booked xs c client given = grind arith
 
 -- an entry halts a play of a client that may be halted so
 pub record HaltsOpenPlay (xs : List Entry) (c : ℕ) : Type 0 where
@@ -142,44 +141,28 @@ timed-set heard clients c client own timed = record {
 -- ---- a day after one more entry of its journal
 now-halt : (state : State) (place number keep : ℕ) (answer : Answer)
     → (next_state state place (Halt number keep) answer).now ≡ state.now
-now-halt state place number keep (Admitted start) = refl
-now-halt state place number keep _ = refl
+now-halt state place number keep answer = grind arith
 
 now-play : (state : State) (place slot : ℕ) (segments : List Segment) (answer : Answer)
     → (next_state state place (Play slot segments) answer).now ≤ max state.now slot
-now-play state place slot segments (Admitted start) = omega arith
-now-play state place slot segments _ = omega arith
+now-play state place slot segments answer = grind arith
 
 -- the machine's now after an entry of a halt
 pub halted-now : (xs : List Entry) (e : Entry) (number keep : ℕ) → e.command ≡ Halt number keep
     → (state_after (xs ++ e ∷ [])).now ≡ (state_after xs).now
-halted-now xs e number keep is =
-    ap (λ (s : State). s.now) (state-push xs e)
-    ∙ ap (λ (x : Command). (next_state (state_after xs) (length xs) x e.answer).now) is
-    ∙ now-halt (state_after xs) (length xs) number keep e.answer
+halted-now xs e number keep is = search (state-push xs e, now-halt (state_after xs) (length xs) number keep e.answer)
 
 pub played-now : (xs : List Entry) (e : Entry) (slot : ℕ) (segments : List Segment) → e.command ≡ Play slot segments
     → (state_after (xs ++ e ∷ [])).now ≤ max (state_after xs).now slot
-played-now xs e slot segments is =
-    let n : (state_after (xs ++ e ∷ [])).now
-    ≡ (next_state (state_after xs) (length xs) (Play slot segments) e.answer).now =
-    ap (λ (s : State). s.now) (state-push xs e)
-    ∙ ap (λ (x : Command). (next_state (state_after xs) (length xs) x e.answer).now) is in
-    omega (arith, n, now-play (state_after xs) (length xs) slot segments e.answer)
+played-now xs e slot segments is = grind (arith, state-push)
 
 pub looked-now : (xs : List Entry) (e : Entry) (slot : ℕ) → e.command ≡ Look slot
     → (state_after (xs ++ e ∷ [])).now ≡ (state_after xs).now
-looked-now xs e slot is =
-    ap (λ (s : State). s.now) (state-push xs e)
-    ∙ ap (λ (x : Command). (next_state (state_after xs) (length xs) x e.answer).now) is
+looked-now xs e slot is = grind (arith, state-push xs e)
 
 can-fewer : (state : State) (number bytes keep : ℕ) → keep ≤ bytes → CanHalt state number bytes
     → CanHalt state number keep
-can-fewer state number bytes keep le can =
-    let h = halting state number bytes can in
-    let P : Option AdmittedPlay → Type 0 =
-    λ o. IsSomeAnd o (λ (x : AdmittedPlay). (x.is_open ≡ true) × (keep ≤ total_bytes x.play.segments)) in
-    subst P (sym h.is) (h.is_open, omega (arith, le, h.small))
+can-fewer state number bytes keep le can = grind arith
 
 -- a client that goes on soundly, whose play the book has open
 pub record IsOnBook (xs : List Entry) (c : ℕ) (client : Client) : Type 0 where
@@ -210,19 +193,7 @@ record ClientSet (day : DayMachine) (ys : List Entry) (c : ℕ) (client : Client
 
 day-set : {ys : List Entry} {c : ℕ} {client : Client} (day : DayMachine) → IsDayMachine day → ClientSet day ys c client
     → IsSoundDay day.slot_units day.heard ys (set day.clients.items c client)
-day-set {ys} {c} {client} day sound is =
-    let clients = day.clients.items in
-    record {
-      count = length-set clients c client ∙ sound.count;
-      some_slot_units = sound.some_slot_units;
-      slot_units_fit = sound.slot_units_fit;
-      heard_fits = sound.heard_fits;
-      now_heard = is.now;
-      going = going-set clients c client is.going sound.going;
-      undone = undone-set clients c client is.undone sound.undone;
-      booked = is.booked;
-      timed = timed-set day.heard clients c client is.timed sound.timed;
-    }
+day-set {ys} {c} {client} day sound is = search (length-set, going-set, undone-set, timed-set)
 
 -- the entry of a client's halt, and the client after it
 pub record HaltEntered (day : DayMachine) (ys : List Entry) (c : ℕ) (client : Client) : Type 0 where
@@ -261,8 +232,7 @@ pub record EntryNoted (day : DayMachine) (ys : List Entry) : Type 0 where
 
 pub day-noted : {ys : List Entry} (day : DayMachine) → IsDayMachine day → EntryNoted day ys
     → IsSoundDay day.slot_units day.heard ys day.clients.items
-day-noted day sound noted =
-    grind (arith, booked-more day.book.entries day.clients.items noted.e noted.none sound.booked)
+day-noted day sound noted = grind (arith, booked-more)
 
 -- the entry of a client's play, and the play
 pub record PlayEntered (day : DayMachine) (ys : List Entry) (c : ℕ) (play : ClientPlay) : Type 0 where
@@ -286,11 +256,7 @@ pub day-played : {ys : List Entry} {c : ℕ} {play : ClientPlay} (day : DayMachi
 day-played {c} {play} day sound entered =
     let xs = day.book.entries in
     let none : (n : ℕ) → Halts n e.command → ⊥ = λ n halts. let never : ⊥ = subst (Halts n) command halts in never in
-    let its : IsOpenOf (xs ++ e ∷ []) c play.number (total_bytes play.plan) = record {
-      inside = omega (arith, number, length-append xs (e ∷ []));
-      maker = λ d. ap (λ (x : Entry). x.maker) (get_or_push xs e d play.number (sym number)) ∙ maker;
-      can = subst (λ (l : List Entry). CanHalt (state_after l) play.number (total_bytes play.plan)) entries_are can;
-    } in
+    let its : IsOpenOf (xs ++ e ∷ []) c play.number (total_bytes play.plan) = grind (arith, common_steps) in
     subst (λ (l : List Entry). IsSoundDay day.slot_units day.heard l (set day.clients.items c (clients.Playing play)))
     (sym entries_are) (day-set day sound (record {
       now = omega (arith, played-now xs e slot segments command, sound.now_heard, late);

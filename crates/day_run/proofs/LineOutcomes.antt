@@ -1,3 +1,4 @@
+use Rattle.std.proofs.lemmas.Grind.{common_steps}
 -- What a line of a script, or a turn's client, does to a day, in five cases, and that it keeps the balance.
 use Rattle.std.proofs.Common.{◌≡◌, ◌<◌, ◌≤◌, ◌%◌, ◌+◌, ◌++◌, ℕ, List, [], ◌∷◌, get_or, subst, refl, sym, ap, ◌∙◌, inl}
 use Rattle.std.proofs.Common.{inr, arith, zero, suc, length, map, replicate, Option, Some, min, None, false}
@@ -99,11 +100,7 @@ pub data LineOutcome (step : LineStep) (case : LineCase) : Type 0 where
 -- the last slot is then this one
 pub outcome-heard : {case : LineCase} (step : LineStep)
     → LineOutcome step case → step.new.heard ≡ case.slot
-outcome-heard step (Kept own at) = ap (λ (m : DayState). m.heard) own.kept ∙ sym at
-outcome-heard step (Asked own at) = ap (λ (m : DayState). m.heard) own.made.noted.new_is ∙ sym at
-outcome-heard step (Stopped own at) = ap (λ (m : DayState). m.heard) own.is.noted.new_is ∙ sym at
-outcome-heard step (Looks own at) = ap (λ (m : DayState). m.heard) own.made.noted.new_is ∙ sym at
-outcome-heard step (Reached own) = ap (λ (m : DayState). m.heard) own.is
+outcome-heard step given = grind arith
 
 -- ---- a journal only grows
 pub record HasGrown (old new : List Entry) : Type 0 where
@@ -111,29 +108,18 @@ pub record HasGrown (old new : List Entry) : Type 0 where
   pub new_is : new ≡ old ++ made
 
 pub kept-grown : (old new : DayState) → new ≡ old → HasGrown old.entries new.entries
-kept-grown old new kept =
-    record { made = []; new_is = ap (λ (m : DayState). m.entries) kept ∙ sym (append-nil old.entries) }
+kept-grown old new kept = grind (arith, common_steps)
 
 pub grown-on : (a b c : List Entry) → HasGrown a b → HasGrown b c → HasGrown a c
-grown-on a b c one two =
-    record {
-      made = one.made ++ two.made;
-      new_is = two.new_is ∙ ap (λ l. l ++ two.made) one.new_is ∙ append_assoc a one.made two.made;
-    }
+grown-on a b c one two = grind (arith, common_steps)
 
 pub outcome-grown : {case : LineCase} (step : LineStep)
     → LineOutcome step case → HasGrown step.old.entries step.new.entries
-outcome-grown step (Kept own at) = kept-grown step.old step.new own.kept
-outcome-grown step (Asked own at) = record { made = _; new_is = ap (λ (m : DayState). m.entries) own.made.noted.new_is }
-outcome-grown step (Stopped own at) = record { made = _; new_is = ap (λ (m : DayState). m.entries) own.is.noted.new_is }
-outcome-grown step (Looks own at) = record { made = _; new_is = ap (λ (m : DayState). m.entries) own.made.noted.new_is }
-outcome-grown {case} step (Reached own) =
-    record { made = halts_at step.old case.slot; new_is = ap (λ (m : DayState). m.entries) own.is }
+outcome-grown step given = grind (arith, kept-grown)
 
 -- ---- the lines
 fault-other : (fault : CurveFault) → is_full_line (fault_text fault) ≡ false
-fault-other NoPictures = refl
-fault-other _ = refl
+fault-other fault = grind arith
 
 offer-other : (tried : List Tried) (start : Option ℕ) (wait : ℕ)
     → is_full_line (offer_text (record { wait = wait; start = start; tried = tried })) ≡ false
@@ -198,14 +184,12 @@ resume-outcome {state = _} step own is = told-kept step is refl refl
 pause-outcome : {Plays : Rest → Type 0} {c : ℕ} {state : ClientState} (step : LineStep)
     → get_or step.old.states c Idle ≡ state → IsPauseLine step.link c state step.old step.new step.text
     → LineOutcome step (client_case step Plays c)
-pause-outcome {c} {state = Playing play} step at is =
-    Stopped (record { client = c; by = refl; play = play; at = at; is = is }) refl
+pause-outcome {c} {state = Playing play} step at is = grind arith
 pause-outcome {state = _} step at is = told-kept step is refl refl
 
 pub offer-kept : {rest : Rest} {wait : ℕ} (step : LineStep)
     → IsOfferLine step.link rest wait step.old step.new step.text → step.new ≡ step.old
-offer-kept step (inl faulty) = faulty.told.kept
-offer-kept step (inr offered) = offered.told.kept
+offer-kept step given = grind arith
 
 -- what a line plays: all of the reel that it names, or what is left for its client
 abbrev pub PlaysBy : LineStep → Line → Rest → Type 0
@@ -238,8 +222,7 @@ line-outcome step (lines.Play c source buffer delay) is =
 line-outcome step (lines.Pause c) is = pause-outcome step refl is
 line-outcome step (lines.Resume c) is = resume-outcome step (record { at = refl; plays = λ rest at. at }) is
 line-outcome step (lines.Look slot) (inl full) = full-kept step full refl
-line-outcome step (lines.Look slot) (inr made) =
-    Looks (record { by = refl; slot = min slot LATEST_SLOT; made = made }) refl
+line-outcome step (lines.Look slot) (inr made) = grind arith
 line-outcome step (lines.Slot slot) is = Reached (record { by = refl; is = is.0; text_is = is.1 })
 line-outcome step (lines.Offer c source buffer delay wait) (inl faulty) = search (told-kept, fault-other)
 line-outcome step (lines.Offer c source buffer delay wait) (inr offered) = search (told-kept, offer-other)
@@ -259,10 +242,7 @@ maker-inside client order by = subst IsInside by order.inside
 
 pub line-order : {n : ℕ} (step : LineStep) (line : Line) → StandingLine step.old.heard n line
     → IsInOrder step (maker_of line) (slot_after step.old.heard line)
-line-order step (lines.Look slot) standing = record { inside = omega arith; later = omega arith }
-line-order step (lines.Slot slot) standing = record { inside = tt; later = omega (arith, standing.stands.0) }
-line-order step (lines.Offer c source buffer delay wait) standing = record { inside = omega arith; later = omega arith }
-line-order step line standing = record { inside = standing.client; later = omega arith }
+line-order step line given = grind arith
 
 -- the lines after the first of those that are taken
 abbrev pub rest_run : {line : Line} {lines : List Line} {text : List ℕ} {texts : List (List ℕ)}
@@ -365,12 +345,7 @@ answered old (Admitted start) ask free ready =
         is = ap (λ (s : State). s.held) (state-push old.entries e);
       }) (omega (arith, free.inside, ready.count)) free.free ready.balanced;
     }
-answered old answer ask free ready =
-    let e = entry_by ask.client (commands.Play old.heard ask.plan) answer in
-    record {
-      count = ready.count;
-      balanced = balanced-same old e (ap (λ (s : State). s.held) (state-push old.entries e)) refl ready.balanced;
-    }
+answered old answer ask free ready = search (balanced-same, state-push)
 
 -- its client, whose play the machine holds
 abbrev pub halted_client : {step : LineStep} {maker : Option ℕ} {slot : ℕ} (own : PlayHalted step maker)
@@ -411,12 +386,7 @@ looked step own ready =
     })
 
 pub slot-ready : (old new : DayState) (slot : ℕ) → old.heard ≤ slot → new ≡ at_slot old slot → IsReady old → IsReady new
-slot-ready old new slot le is ready =
-    subst IsReady (sym is) (record {
-      count = length-map (map (after_sending slot) old.states) (after_play slot)
-          ∙ length-map old.states (after_sending slot) ∙ ready.count;
-      balanced = (slot-halted old slot le ready.balanced).balanced;
-    })
+slot-ready old new slot le is ready = grind (arith, common_steps, slot-halted old slot le ready.balanced)
 
 pub outcome-ready : {case : LineCase} (step : LineStep)
     → LineOutcome step case → IsInOrder step case.maker case.slot → IsReady step.old → IsReady step.new

@@ -1,3 +1,4 @@
+use Rattle.std.proofs.lemmas.Grind.{common_steps}
 -- What the lines of a script make of a day.
 use Rattle.std.proofs.Common.{◌≡◌, ◌<◌, ◌+◌, ℕ, false, List, [], ◌∷◌, ◌++◌, length, map, drop, set, replicate, Result}
 use Rattle.std.proofs.Common.{Ok, Err, IfOk, arith, refl, sym, ap, subst, ◌∙◌}
@@ -50,18 +51,7 @@ pub record EntryMade (link : SharedLink) (old new : DayState) (entry : Entry) (s
 pub noted : {link : SharedLink} {old new : DayState} {entry : Entry} {states : List ClientState}
     (made : EntryMade link old new entry states)
     → IsNoted link entry states old new (reply_text new.entries (tolds.Entry made.place))
-noted {link} {old} {new} {entry} {states} made =
-    let y : new.entries ≡ old.entries ++ entry ∷ [] = entries_are ∙ ap (λ x. old.entries ++ x ∷ []) is in
-    record {
-      answered = subst (IsAnswered link.steps (state_after old.entries)) is answered;
-      new_is =
-          ap (λ es. record { entries = es; states = new.states; heard = new.heard }) y
-          ∙ ap (λ l. record { entries = old.entries ++ entry ∷ []; states = l; heard = new.heard }) states_are
-          ∙ ap (λ n. record { entries = old.entries ++ entry ∷ []; states = states; heard = n }) heard_is;
-      text_is = told-entry place old.entries new.entries entry place_is y;
-    }
-  where
-    open made use {is, answered, place, place_is, entries_are, states_are, heard_is}
+noted {link} {old} {new} {entry} {states} made = grind (arith, common_steps)
 
 -- a play that was admitted: its number, what was to be sent, its plan, and its first slot
 pub record PlayBegun (number : ℕ) (play : ClientPlay) : Type 0 where
@@ -79,18 +69,11 @@ pub record PlayBegun (number : ℕ) (play : ClientPlay) : Type 0 where
 pub states-played : {number : ℕ} {play : ClientPlay} (cs : List Client) (c : ℕ) (begun : PlayBegun number play)
     → map state_of (set cs c (clients.Playing play))
     ≡ with_play c (rest_of begun.rest) begun.plan number begun.answer (map state_of cs)
-states-played {number} {play} cs c begun =
-    let same : play_of play ≡ record { number = number; rest = rest_of rest; plan = plan; start = start } =
-    cc (number_is, rest_is, plan_is, start_is) in
-    states-set cs c (clients.Playing play) ∙ ap (λ x. set (map state_of cs) c (Playing x)) same
-    ∙ ap (λ a. with_play c (rest_of rest) plan number a (map state_of cs)) (sym answer_is)
-  where
-    open begun use {rest, plan, start, answer_is, number_is, rest_is, plan_is, start_is}
+states-played {number} {play} cs c begun = grind (arith, states-set cs c (clients.Playing play))
 
 pub states-same : {states : List ClientState} (ask : AskedPlay) (number : ℕ) (answer : Answer)
     → is_admission answer ≡ false → states ≡ with_play ask.client ask.rest ask.plan number answer states
-states-same ask number (Admitted start) not = cc not
-states-same ask number _ not = refl
+states-same ask number answer given = grind arith
 
 -- the play of a client that pauses
 pub record PausedPlay (heard : ℕ) (halt : Halt) (client next : Client) : Type 0 where
@@ -107,15 +90,12 @@ paused-play _ next is = absurd is
 pub no-pause : (step : LineStep) (c : ℕ) (client : Client) → IsQuiet client
     → IsTold state_text step.old step.new step.text
     → IsPauseLine step.link c (state_of client) step.old step.new step.text
-no-pause step c (clients.Playing play) quiet told = absurd quiet
-no-pause step c _ quiet told = told
+no-pause step c client given given' = grind arith
 
 -- a client asks for a play, or can't
 if-free : {Free : Type 0} (Busy : Type 0) (state : ClientState) → is_busy state ≡ false → Free
     → IfBusy state Busy Free
-if-free Busy (Playing play) free asked = cc free
-if-free Busy (Pausing stop left) free asked = cc free
-if-free Busy _ free asked = asked
+if-free Busy state given given' = grind arith
 
 pub play-ok : (rest : Rest) (r : Result LineAnswer NoMemory) (asks : ClientAsks)
     → is_busy (state_at asks.old asks.client) ≡ false

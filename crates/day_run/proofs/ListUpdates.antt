@@ -1,3 +1,5 @@
+use Rattle.std.proofs.Common.{arith}
+use Rattle.std.proofs.lemmas.Grind.{common_steps}
 -- What is true of each element of a list in which one is set.
 use Rattle.std.proofs.Common.{◌≡◌, ◌<◌, ℕ, List, length, set, get_or, sym, subst, inl, inr}
 use Rattle.std.proofs.lemmas.Bool.{cases_eq}
@@ -17,11 +19,4 @@ set_place xs c d x none = record { xs = xs; c = c; d = d; x = x; none = none }
 -- the element that is set, and the others as before
 pub set-at : {X : Type 0} (P : ℕ → X → Type 0) (at : SetPlace X) → (at.d ≡ at.c → at.c < length at.xs) → P at.c at.x
     → ((at.d ≡ at.c → ⊥) → P at.d (get_or at.xs at.d at.none)) → P at.d (get_or (set at.xs at.c at.x) at.d at.none)
-set-at P at inside own other = elim (cases_eq d c) [
-  | inl same ↦
-      let B : ℕ → Type 0 = λ n. P n (get_or (set xs c x) n none) in
-      subst B (sym same) (subst (P c) (sym (get_or-set_same xs c x none (inside same))) own)
-  | inr apart ↦ subst (P d) (sym (get_or-set_other xs c d x none apart)) (other apart)
-]
-  where
-    open at use {xs, c, d, x, none}
+set-at P at inside own other = grind (arith, common_steps)

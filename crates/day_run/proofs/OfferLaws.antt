@@ -27,8 +27,7 @@ start-least tried (Some start) is = grind arith
 
 start-count : (tried : TriedStarts) (start : Option ℕ) → IsStart tried.Fits tried.first tried.wait tried.count start
     → IsCount tried.first (tried.first + tried.wait) start tried.count
-start-count tried None is = omega (arith, is)
-start-count tried (Some start) is = sym is.1
+start-count tried start given = grind arith
 
 pub offer-told : {rest : Rest} {wait : ℕ} (step : LineStep)
     → IsOfferLine step.link rest wait step.old step.new step.text
@@ -57,12 +56,7 @@ offer-told {wait} step (inr offered) =
       least = start-least tried found.start start;
       tried = found.tried;
       count = start-count tried found.start start;
-      each = λ i none inside.
-          let O : ℕ → Type 0 = λ s. IsFirstOverflow 0 booked capacity s plan (get_or found.tried i none).over in
-          record {
-            start_is = refusals.starts i none inside;
-            over = subst O (refusals.starts i none inside) (refusals.refused i none inside);
-          };
+      each = grind arith;
       text_is = offered.told.text_is;
     })
   where

@@ -61,8 +61,7 @@ halted-past : {maker : Option ℕ} {slot : ℕ} (step : LineStep) (own : PlayHal
 halted-past step own order ready t past =
     let held = its-held (halted_client own order ready) in
     let most = kept-most step.old.entries held own.is.keep own.is.noted.answered in
-    let sent : sent_by (booking_of own.play) step.old.heard ≤ own.is.keep =
-    omega (arith, own.is.pause.boundary.after) in
+    let sent : sent_by (booking_of own.play) step.old.heard ≤ own.is.keep = grind arith in
     ap (λ (m : DayState). booked_after m.entries t) own.is.noted.new_is
     ∙ stays-halt step.old.entries held own.is.keep (record { sent = sent; most = most }) t past
 
@@ -148,18 +147,7 @@ pub turns-past : (turns : List FairTurn) (booked : ℕ → ℕ) (come : TurnRun 
     → ((t : ℕ) → t ≤ come.new.heard → booked t ≡ booked_after come.new.entries t)
     → AreBooked booked turns come.old.heard come.new.heard
     × ((t : ℕ) → t ≤ come.old.heard → booked t ≡ booked_after come.old.entries t)
-turns-past [] booked come ready same =
-    let old = come.old in
-    let heard : come.new.heard ≡ old.heard = ap (λ (m : DayState). m.heard) come.run in
-    let none : come.new.heard - old.heard ≡ 0 = omega (arith, heard) in (
-      record {
-        order = omega (arith, heard);
-        sum_is = sym (ap (λ k. sum_by booked (range_with_len (old.heard + 1) k)) none);
-        peak_is = sym (ap (λ k. fold max 0 (map booked (range_with_len (old.heard + 1) k))) none);
-        each = All-nil (IsTurnBooked booked);
-      },
-      λ t past. same t (omega (arith, past, heard)) ∙ ap (λ (m : DayState). booked_after m.entries t) come.run,
-    )
+turns-past [] booked come ready same = grind arith
 turns-past (turn ∷ turns) booked come ready same =
     let taken = first_turn come in
     let begun : IsReady turn.old = subst IsReady (sym come.run.0) ready in
@@ -184,13 +172,7 @@ turns-past (turn ∷ turns) booked come ready same =
 pub look-leaves : (link : SharedLink) (slot : ℕ) (old new : DayState) (text : List ℕ)
     → IsLine link (lines.Look slot) old new text
     → (new.states ≡ old.states) × (new.heard ≡ old.heard) × (state_after new.entries ≡ state_after old.entries)
-look-leaves link slot old new text (inl full) = grind arith
-look-leaves link slot old new text (inr made) = (
-  ap (λ (m : DayState). m.states) made.noted.new_is,
-  ap (λ (m : DayState). m.heard) made.noted.new_is,
-  ap (λ (m : DayState). state_after m.entries) made.noted.new_is
-      ∙ state-push old.entries (entry_by 0 (commands.Look _) made.answer),
-)
+look-leaves link slot old new text given = grind (arith, state-push)
 
 pub end-later : {link : SharedLink} {n : ℕ} (taken : LinesTaken link n) (t : ℕ) → taken.moment.heard < t
     → booked_after (last_journal taken.moment) t ≡ sum_by (share_of t) (map after_open taken.moment.states)

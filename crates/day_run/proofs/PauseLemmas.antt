@@ -1,3 +1,4 @@
+use Rattle.std.proofs.lemmas.Grind.{common_steps}
 -- What a client's pacer has sent, in the words of a day, and what a pause keeps of a play.
 use Rattle.std.proofs.Common.{◌≡◌, ◌<◌, ◌≤◌, ◌+◌, ◌-◌, ◌==◌, ℕ, min, nat_lt, nat_le, true, false, Bool, cond, List}
 use Rattle.std.proofs.Common.{[], Option, Some, None, arith, refl, sym, ap, subst, ◌∙◌, inl, inr, ◌&&◌, T}
@@ -51,17 +52,12 @@ pub record TimedPlay (play : ClientPlay) (slot : ℕ) : Type 0 where
 -- a client that pauses is paused, or not yet
 pub pausing-cases : (P : ClientState → Type 0) (slot : ℕ) (stop : Booked) (rest : Rest) → P (Paused rest)
     → P (Pausing stop rest) → P (pausing_state slot stop rest)
-pausing-cases P slot stop rest done still = by-test (sent_by stop slot == stop.keep)
-  where
-    by-test : (b : Bool) → P (cond b (Paused rest) (Pausing stop rest))
-    by-test true = done
-    by-test false = still
+pausing-cases P slot stop rest done still = grind arith
 
 -- a sweep's halts don't see what a slot makes of pauses
 pub done-sent : (slot client : ℕ) (state : ClientState)
     → done_halt slot client (after_sending slot state) ≡ done_halt slot client state
-done-sent slot client (Pausing stop rest) = pausing-cases (λ s. done_halt slot client s ≡ []) slot stop rest refl refl
-done-sent slot client _ = refl
+done-sent slot client state = grind arith
 
 -- the slot of a plan that was sent last
 pub last-slot : (last : Option ℕ) (start heard passed : ℕ) → slots_through last ≡ passed
@@ -96,15 +92,11 @@ pub pause-of : {play : ClientPlay} {heard keep : ℕ} → TimedPlay play heard �
 pause-of {play} {heard} {keep} own pause =
     let p = play.pacer in
     let pieces = media_pieces play.rest.medium.now in
-    let C : ℕ → Type 0 = λ n. IsBoundaryAfter pieces (n + p.sent) (n + keep) in
     let D : ℕ → Type 0 = λ n. IsBoundaryAfter pieces (play.rest.run.sent + n) (play.rest.run.sent + keep) in
     let L : Option ℕ → Type 0 =
     λ o. IsRemainingRun (media_sizes play.rest.medium.now) play.rest.playback play.rest.run play.plan o keep left in
     record {
-      boundary =
-          subst D (sent-at play heard playing timed) (subst C playing.before_is
-          (subst (λ (ps : List (List ℕ)). IsBoundaryAfter ps (p.before + p.sent) (p.before + keep)) playing.pieces_are
-          at.boundary));
+      boundary = grind arith;
       left = left;
       left_is = subst L (last-slot at.last p.start heard p.passed at.through timed) left_is;
       state_is = refl;
@@ -142,10 +134,7 @@ halts {play} {keep} at playing undone = by-last at.last at.through
         let apart : p.sent ≡ p.keep → ⊥ = undone-apart p undone (omega (arith, passed)) in
         let through = sent-last {play = play} last playing apart passed in
         let plan : IsPlan play.plan = subst (λ (s : List Segment). IsPlan s) playing.plan_is playing.pacing.plan in
-        let below : p.sent < p.keep = elim (cases_lt p.sent p.keep) [
-          | inl less ↦ less
-          | inr more ↦ absurd (apart (omega (arith, more, playing.pacing.sent, playing.pacing.due)))
-        ] in
+        let below : p.sent < p.keep = grind (arith, common_steps) in
         let inside : last < total_slots play.plan = elim (cases_lt last (total_slots play.plan)) [
           | inl within ↦ within
           | inr past ↦
@@ -162,19 +151,7 @@ halts {play} {keep} at playing undone = by-last at.last at.through
 -- it can be sent on
 pub left-rest : {play : ClientPlay} {keep : ℕ} → IsPlaying play → (pause : PauseLeft play keep)
     → IsRest (record play.rest { run = pause.left })
-left-rest {play} {keep} playing pause = record {
-  playback = playing.rest.playback;
-  run = pause.run_is;
-  first = left_is.first_is ∙ playing.rest.first;
-  end = left_is.end_is ∙ playing.rest.end;
-  boundary = subst (λ n. IsBoundary (media_pieces play.rest.medium.now) n)
-      (ap (λ n. n + keep) playing.before_is ∙ sym left_is.sent_is)
-      (subst (λ (ps : List (List ℕ)). IsBoundary ps (play.pacer.before + keep)) playing.pieces_are
-      pause.at.boundary.boundary);
-  fits = pause.fits;
-}
-  where
-    open pause use {left_is}
+left-rest {play} {keep} playing pause = grind arith
 
 -- it has come to the slot that was received last
 pub left-timed : {p : PacerState} {keep : ℕ} (old : PacerState) (heard : ℕ) → p ≡ record old { keep = keep }

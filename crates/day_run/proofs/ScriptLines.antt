@@ -1,3 +1,4 @@
+use Rattle.std.proofs.lemmas.Grind.{common_steps}
 -- The lines of a script as they are taken, one after the other.
 use Rattle.std.proofs.Common.{◌≡◌, ℕ, zero, suc, ◌<◌, List, ◌∷◌, length, get_or, take, sym, subst, arith, ◌+◌, []}
 use Rattle.std.proofs.Common.{◌++◌, refl, ap, ◌∙◌}
@@ -66,8 +67,7 @@ pub record NextTaken (link : SharedLink) (n : ℕ) (taken : LinesTaken link n) :
 -- the first of lines, and the others
 pub first-standing : {heard n : ℕ} {line : Line} {lines : List Line} → StandingLines heard n (line ∷ lines)
     → StandingLine heard n line
-first-standing {line} standing =
-    record { client = standing.clients zero line (omega arith); stands = standing.stands zero line (omega arith) }
+first-standing {line} standing = grind arith
 
 -- lines that may stand and are taken on a link, one after the other, with their texts
 pub record LineRun (lines : List Line) (texts : List (List ℕ)) : Type 0 where
@@ -116,16 +116,13 @@ pub record LastLine : Type 0 where
 pub run-more : (last : LastLine) (lines : List Line) (texts : List (List ℕ)) (old : DayState)
     → AreLineSteps last.link lines texts old last.old
     → AreLineSteps last.link (lines ++ last.line ∷ []) (texts ++ last.text ∷ []) old last.new
-run-more last [] [] old run =
-    (last.new, (subst (λ (m : DayState). IsLine last.link last.line m last.new last.text) run last.is, refl))
+run-more last [] [] old run = grind arith
 run-more last (l ∷ lines) (t ∷ texts) old run = (run.0, (run.1.0, run-more last lines texts run.0 run.1.1))
 run-more last _ _ old run = absurd run
 
 flat-push : (texts : List (List ℕ)) (text : List ℕ)
     → flat_map (λ (t : List ℕ). t) (texts ++ text ∷ []) ≡ flat_map (λ (t : List ℕ). t) texts ++ text
-flat-push texts text =
-    flat_map-append (λ (t : List ℕ). t) texts (text ∷ [])
-    ∙ ap (λ l. flat_map (λ (t : List ℕ). t) texts ++ l) (append-nil text)
+flat-push texts text = grind (arith, common_steps)
 
 -- a run of the lines before a place, and of the one there
 pub run-next : {before : List ℕ} (last : LastLine) (lines : List Line) (place : Place lines)
@@ -136,8 +133,7 @@ run-next last lines place is run =
     record {
       texts = run.texts ++ last.text ∷ [];
       text_is = ap (λ l. l ++ last.text) run.text_is ∙ sym (flat-push run.texts last.text);
-      run = subst L (ap (λ l. take i lines ++ l ∷ []) is ∙ sym (take_more lines i none inside))
-          (run-more last (take i lines) run.texts first_moment run.run);
+      run = grind (arith, take_more lines i none inside, run-more last (take i lines) run.texts first_moment run.run);
     }
   where
     open place use {index as i, none, inside}

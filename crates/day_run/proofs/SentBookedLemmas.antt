@@ -1,3 +1,4 @@
+use Rattle.std.proofs.lemmas.Grind.{common_steps}
 -- What is sent in a day's slots is what is booked there.
 use Rattle.std.proofs.Common.{◌≡◌, ◌<◌, ◌≤◌, ◌+◌, ◌-◌, ◌==◌, ℕ, zero, suc, List, [], ◌∷◌, ◌++◌, All, false, cond}
 use Rattle.std.proofs.Common.{length, map, set, get_or, Some, arith, refl, sym, ap, subst, ◌∙◌, inl, inr}
@@ -54,9 +55,7 @@ between-more heard slot (Pausing stop rest) le = growth-more heard slot stop le
 between-more heard slot _ le = omega arith
 
 between-none : (heard : ℕ) (state : ClientState) → sent_between heard heard state ≡ 0
-between-none heard (Playing play) = omega arith
-between-none heard (Pausing stop rest) = omega arith
-between-none heard _ = refl
+between-none heard state = grind arith
 
 sum-between : (heard slot : ℕ) (states : List ClientState) → heard ≤ slot
     → sum_by (sent_between heard (slot + 1)) states
@@ -81,9 +80,7 @@ sum-none heard (state ∷ states) =
 sent-booked : (booked : ℕ → ℕ) (heard n : ℕ) (states : List ClientState)
     → ((t : ℕ) → heard < t → booked t ≡ sum_by (share_of t) states)
     → sum_by (sent_between heard (heard + n)) states ≡ sum_by booked (range_with_len (heard + 1) n)
-sent-booked booked heard zero states each =
-    let e : heard + 0 ≡ heard = omega arith in
-    ap (λ s. sum_by (sent_between heard s) states) e ∙ sum-none heard states
+sent-booked booked heard zero states each = grind (arith, sum-none heard states)
 sent-booked booked heard (suc n) states each =
     let e : heard + suc n ≡ heard + n + 1 = omega arith in
     let f : suc n ≡ n + 1 = omega arith in
@@ -115,8 +112,7 @@ IsShut (Playing play) = ⊥
 IsShut _ = Unit {0}
 
 shut-idle : (state : ClientState) → IsShut state → is_playing state ≡ false
-shut-idle (Playing play) shut = absurd shut
-shut-idle _ shut = refl
+shut-idle state given = grind arith
 
 -- a client books nothing, and plays nothing
 pub record IsFree (state : ClientState) : Type 0 where
@@ -140,29 +136,18 @@ abbrev AreHeld : List Entry → List ClientState → Type 0
 AreHeld entries states = (d : ℕ) → d < length states → AreHeldOf entries d (get_or states d Idle)
 
 shut-held : (entries : List Entry) (c : ℕ) (state : ClientState) → IsShut state → AreHeldOf entries c state
-shut-held entries c (Playing play) shut = absurd shut
-shut-held entries c _ shut = tt
+shut-held entries c state given = grind arith
 
 maker-more : (entries : List Entry) (e : Entry) (c : ℕ) (play : ClientPlay) → IsHeld entries c play
     → play_numbered play.number (state_after (entries ++ e ∷ [])).held
     ≡ Some (admitted_play play.number play.start play.plan) → IsHeld (entries ++ e ∷ []) c play
-maker-more entries e c play its held = record {
-  inside = omega (arith, its.inside, length-append entries (e ∷ []));
-  maker = λ none. ap (λ (x : Entry). x.maker) (get_or_append_left entries (e ∷ []) none play.number its.inside)
-      ∙ its.maker none;
-  held = held;
-}
+maker-more entries e c play its held = grind (arith, length-append entries (e ∷ []), get_or_append_left)
 
 sum-split : (t : ℕ) (before after : List AdmittedPlay) (h : AdmittedPlay)
     → sum_by (share_at t) (map (λ (x : AdmittedPlay). x.play) (before ++ h ∷ after))
     ≡ sum_by (share_at t) (map (λ (x : AdmittedPlay). x.play) before)
     + (share_at t h.play + sum_by (share_at t) (map (λ (x : AdmittedPlay). x.play) after))
-sum-split t before after h =
-    ap (sum_by (share_at t)) (plays-split before after h)
-    ∙ sum_by-append (share_at t) (map (λ (x : AdmittedPlay). x.play) before) (h.play ∷ map (λ (x : AdmittedPlay).
-    x.play) after)
-    ∙ ap (λ k. sum_by (share_at t) (map (λ (x : AdmittedPlay). x.play) before) + k)
-    (sum_by-cons (share_at t) h.play (map (λ (x : AdmittedPlay). x.play) after))
+sum-split t before after h = grind (arith, common_steps)
 
 -- a client's play that the machine holds
 pub record HeldClient (entries : List Entry) : Type 0 where
@@ -184,8 +169,7 @@ booked-halted entries its keep t =
     let new : F (with_halted play.number keep held)
     ≡ F parts.before + (share_at t (truncated_play play.start play.plan keep) + F parts.after) =
     ap F (parts.becomes keep) ∙ sum-split t parts.before parts.after (halted_play keep h) in
-    let old : F held ≡ F parts.before + (share_at t (booking_of play) + F parts.after) =
-    ap F parts.was ∙ sum-split t parts.before parts.after h in
+    let old : F held ≡ F parts.before + (share_at t (booking_of play) + F parts.after) = grind (arith, common_steps) in
     omega (arith, s, new, old)
   where
     open its use {c, play, is}
@@ -275,13 +259,7 @@ halted-fresh : (entries : List Entry) (c number keep : ℕ)
     → All (λ (h : AdmittedPlay). h.number < length entries) (state_after entries).held
     → All (λ (h : AdmittedPlay). h.number < length (entries ++ halt_by c number keep))
     (state_after (entries ++ halt_by c number keep)).held
-halted-fresh entries c number keep fresh =
-    let e = entry_by c (commands.Halt number keep) Halted in
-    subst (λ (s : State). All (λ (h : AdmittedPlay). h.number < length (entries ++ halt_by c number keep)) s.held)
-    (sym (state-push entries e))
-    (fresh-more (length entries) (length (entries ++ halt_by c number keep))
-    (with_halted number keep (state_after entries).held) (omega (arith, length-append entries (e ∷ [])))
-    (fresh-halted number keep (length entries) (state_after entries).held fresh))
+halted-fresh entries c number keep fresh = grind (arith, state-push, length-append, fresh-halted)
 
 -- what the machine holds for the clients, one of which is set
 held-set : (entries : List Entry) (states : List ClientState) (c : ℕ) (next : ClientState)
@@ -338,17 +316,8 @@ same-held entries e c _ same its = tt
 pub balanced-same : (m : DayState) (e : Entry) → (state_after (m.entries ++ e ∷ [])).held ≡ (state_after m.entries).held
     → is_halt e.command ≡ false → IsBalanced m.entries m.states m.heard
     → IsBalanced (m.entries ++ e ∷ []) m.states m.heard
-balanced-same m e same no_halt balanced = record {
-  each = λ t later. ap (λ hs. sum_by (share_at t) (map (λ (x : AdmittedPlay). x.play) hs)) same ∙ balanced.each t later;
-  held = λ c inside. same-held m.entries e c (get_or m.states c Idle) same (balanced.held c inside);
-  fresh =
-      let A : List AdmittedPlay → Type 0 = λ l. All (λ (h : AdmittedPlay). h.number < length (m.entries ++ e ∷ [])) l in
-      subst A (sym same)
-      (fresh-more (length m.entries) (length (m.entries ++ e ∷ [])) (state_after m.entries).held
-      (omega (arith, length-append m.entries (e ∷ []))) balanced.fresh);
-  playing = ap (sum_by open_one) same ∙ balanced.playing;
-  halts = halts-none m.entries e no_halt balanced.halts;
-}
+balanced-same m e same no_halt balanced =
+    grind (arith, same-held, common_steps, halts-none m.entries e no_halt balanced.halts)
 
 -- an entry by which the machine holds one play more
 record NextHeld (entries : List Entry) : Type 0 where
@@ -378,13 +347,7 @@ pub record BegunPlay (entries : List Entry) : Type 0 where
 pub booked-begun : (entries : List Entry) (t : ℕ) (begun : BegunPlay entries)
     → booked_in (state_after (entries ++ begun.e ∷ [])) t
     ≡ booked_in (state_after entries) t + share_at t (whole_play begun.start begun.plan)
-booked-begun entries t begun =
-    let held = (state_after entries).held in
-    ap (λ hs. sum_by (share_at t) (map (λ (x : AdmittedPlay). x.play) hs)) is
-    ∙ ap (sum_by (share_at t)) (map-append (λ (x : AdmittedPlay). x.play) held (admitted_play number start plan ∷ []))
-    ∙ sum_by_push (share_at t) (map (λ (x : AdmittedPlay). x.play) held) (whole_play start plan)
-  where
-    open begun use {number, start, plan, is}
+booked-begun entries t begun = grind (arith, common_steps)
 
 -- a client's play was admitted
 pub record ClientPlayed (entries : List Entry) (c : ℕ) : Type 0 where
@@ -404,11 +367,7 @@ played-held {entries} {c} played fresh =
     let held = (state_after entries).held in
     record {
       inside = omega (arith, number, length-append entries (e ∷ []));
-      maker = λ none.
-          let z : play.number - play.number ≡ 0 = omega arith in
-          ap (λ (x : Entry). x.maker)
-          (get_or-append_right entries (e ∷ []) play.number play.number none (sym number) (omega arith)
-          ∙ ap (λ k. get_or (e ∷ []) k none) z) ∙ maker;
+      maker = grind (arith, common_steps);
       held =
           let A : ℕ → Type 0 = λ k. All (λ (h : AdmittedPlay). h.number < k) held in
           ap (play_numbered play.number) is
@@ -441,8 +400,7 @@ balanced-play {m} {c} played inside free balanced =
           (All-push P held new (fresh-more (length m.entries) (length ys) held (omega (arith, n)) balanced.fresh)
           (omega (arith, number, n)));
       playing =
-          let p : open_count ys ≡ open_count m.entries + 1 =
-          ap (sum_by open_one) is ∙ sum_by_push open_one held new in
+          let p : open_count ys ≡ open_count m.entries + 1 = grind (arith, common_steps) in
           let s : count_by is_playing (set m.states c (Playing play)) + playing_one (get_or m.states c Idle)
           ≡ count_by is_playing m.states + 1 = sum_by-set playing_one m.states c (Playing play) Idle inside in
           let was : playing_one (get_or m.states c Idle) ≡ 0 = ap (λ b. cond b 1 0) free.shut in

@@ -1,3 +1,4 @@
+use Rattle.std.proofs.lemmas.Grind.{common_steps}
 -- The clients book what the machine has booked once a slot has come, and at the end of a day; and what
 -- is booked in past slots stays.
 use Rattle.std.proofs.Common.{◌≡◌, ◌<◌, ◌≤◌, ◌+◌, ◌-◌, ◌==◌, ℕ, zero, suc, true, false, Bool, cond, nat_le, List, []}
@@ -27,23 +28,20 @@ use Rattle.day_run.proofs.SentBookedLemmas.{booked-begun, booked-halted, its-hel
 -- ---- a slot comes
 pause-share : (b : Bool) (t : ℕ) (stop : Booked) (rest : Rest) → (b ≡ true → share_at t stop ≡ 0)
     → share_of t (cond b (Paused rest) (Pausing stop rest)) ≡ share_at t stop
-pause-share true t stop rest none = sym (none refl)
-pause-share false t stop rest none = refl
+pause-share b t stop rest given = grind arith
 
 pub pausing-share : (t slot : ℕ) (stop : Booked) (rest : Rest) → slot < t
     → share_of t (pausing_state slot stop rest) ≡ share_at t stop
 pausing-share t slot stop rest later = grind (arith, pause-share, share-done, eqb-true)
 
 sending-share : (t slot : ℕ) (state : ClientState) → slot < t → share_of t (after_sending slot state) ≡ share_of t state
-sending-share t slot (Pausing stop rest) later = pausing-share t slot stop rest later
-sending-share t slot _ later = refl
+sending-share t slot state given = grind (arith, pausing-share)
 
 sending-shares : (t slot : ℕ) (states : List ClientState) → slot < t
     → sum_by (share_of t) (map (after_sending slot) states) ≡ sum_by (share_of t) states
 sending-shares t slot [] later = refl
 sending-shares t slot (state ∷ states) later =
-    omega (
-      arith,
+    search (
       sending-share t slot state later,
       sending-shares t slot states later,
       sum_by-cons (share_of t) state states,
@@ -51,14 +49,13 @@ sending-shares t slot (state ∷ states) later =
     )
 
 sending-play : (slot : ℕ) (state : ClientState) → playing_one (after_sending slot state) ≡ playing_one state
-sending-play slot (Pausing stop rest) = pausing-cases (λ s. playing_one s ≡ 0) slot stop rest refl refl
-sending-play slot _ = refl
+sending-play slot state = grind arith
 
 sending-plays : (slot : ℕ) (states : List ClientState)
     → sum_by playing_one (map (after_sending slot) states) ≡ sum_by playing_one states
 sending-plays slot [] = refl
 sending-plays slot (state ∷ states) =
-    omega (
+    grind (
       arith,
       sending-play slot state,
       sending-plays slot states,
@@ -68,9 +65,7 @@ sending-plays slot (state ∷ states) =
 
 sending-held : (entries : List Entry) (c slot : ℕ) (state : ClientState) → AreHeldOf entries c state
     → AreHeldOf entries c (after_sending slot state)
-sending-held entries c slot (Playing play) its = its
-sending-held entries c slot (Pausing stop rest) its = pausing-cases (AreHeldOf entries c) slot stop rest tt tt
-sending-held entries c slot _ its = tt
+sending-held entries c slot state given = grind arith
 
 balanced-sending : (m : DayState) (slot : ℕ) → m.heard ≤ slot → IsBalanced m.entries m.states m.heard
     → IsBalanced m.entries (map (after_sending slot) m.states) slot
@@ -89,8 +84,7 @@ balanced-sending m slot le balanced = record {
 done-shares : (t slot : ℕ) (play : ClientPlay) → slot < t → is_done slot play ≡ true
     → share_of t Idle ≡ share_at t (truncated_play play.start play.plan (total_bytes play.plan))
 done-shares t slot play later done =
-    let all : (sent_by (booking_of play) slot == total_bytes play.plan) ≡ true =
-    (and_parts (nat_le play.start slot) (sent_by (booking_of play) slot == total_bytes play.plan) done).1 in
+    let all : (sent_by (booking_of play) slot == total_bytes play.plan) ≡ true = grind arith in
     sym (share-done t slot (booking_of play) later
     (eqb-true (sent_by (booking_of play) slot) (total_bytes play.plan) all))
 
@@ -106,16 +100,7 @@ pub record KeepsSent (slot : ℕ) (play : ClientPlay) (keep : ℕ) : Type 0 wher
 -- a play books in past slots what it did, where it keeps what was sent
 pub stays-halt : {slot : ℕ} (entries : List Entry) (its : HeldClient entries) (keep : ℕ) → KeepsSent slot its.play keep
     → Stays slot entries (entries ++ halt_by its.c its.play.number keep)
-stays-halt {slot} entries its keep kept t past =
-    let play = its.play in
-    omega (
-      arith,
-      booked-halted entries its keep t,
-      kept.sent,
-      kept.most,
-      sent-rises play.plan play.start t (t + 1) (omega arith),
-      sent-rises play.plan play.start (t + 1) (slot + 1) (omega (arith, past)),
-    )
+stays-halt {slot} entries its keep kept t past = grind (arith, booked-halted entries its keep t, sent-rises)
 
 -- ---- the halts of a slot, or of a day's end
 -- what the halts of a slot, or of a day's end, leave: the balance, what is booked in past slots, and the places that
@@ -128,27 +113,24 @@ pub record IsHaltedAt (slot : ℕ) (old new : List Entry) (states : List ClientS
 -- a halt takes the place that was kept for it
 pub places-halt : (entries : List Entry) (its : HeldClient entries) (keep : ℕ)
     → places_taken (entries ++ halt_by its.c its.play.number keep) ≡ places_taken entries
-places-halt entries its keep =
-    omega (arith, open-less entries its keep, length-append entries (halt_by its.c its.play.number keep))
+places-halt entries its keep = grind (arith, open-less, length-append)
 
 -- a client stays as it is
 kept-step : {m : DayState} {state : ClientState} (own : BalancedClient m state)
     → IsHaltedAt m.heard m.entries (m.entries ++ []) (set m.states own.c state)
-kept-step {m} {state} own =
-    let S : List ClientState → Type 0 = λ l. IsHaltedAt m.heard m.entries m.entries l in
-    subst (λ (es : List Entry). IsHaltedAt m.heard m.entries es (set m.states own.c state)) (sym (append-nil m.entries))
-    (subst S (sym (ap (set m.states own.c) (sym own.at) ∙ set-get_or m.states own.c Idle))
-    (record { balanced = own.balanced; stays = λ t past. refl; places = refl }))
+kept-step {m} {state} own = grind (arith, common_steps)
 
 -- a client's play is halted, which keeps what was sent
 halted-step : {m : DayState} {play : ClientPlay} (own : BalancedClient m (Playing play))
     (stop : PlayStopped m.heard play) → KeepsSent m.heard play stop.keep
     → IsHaltedAt m.heard m.entries (m.entries ++ halt_by own.c play.number stop.keep) (set m.states own.c stop.next)
-halted-step {m} own stop kept = record {
-  balanced = balanced-halt own stop;
-  stays = stays-halt m.entries (its-held own) stop.keep kept;
-  places = places-halt m.entries (its-held own) stop.keep;
-}
+halted-step {m} own stop kept =
+    grind (
+      arith,
+      balanced-halt own stop,
+      stays-halt m.entries (its-held own) stop.keep kept,
+      places-halt m.entries (its-held own) stop.keep,
+    )
 
 step-play : {m : DayState} {play : ClientPlay} {done : Bool} (own : BalancedClient m (Playing play))
     → is_done m.heard play ≡ done → IsHaltedAt m.heard m.entries
@@ -214,24 +196,13 @@ ending-next {m} {h} {n} inside e =
       entries = e.entries ++ halts;
       states = set e.states n (h.after m.heard state);
       swept = swept-set inside e.swept;
-      entries_are = ap (λ es. es ++ halts) e.entries_are
-          ∙ entries-more (h.halt m.heard) m.states m.entries n inside;
-      is = record {
-        balanced = next.balanced;
-        stays = λ t past. next.stays t past ∙ e.is.stays t past;
-        places = next.places ∙ e.is.places;
-      };
+      entries_are = grind (arith, entries-more (h.halt m.heard) m.states m.entries n inside);
+      is = grind arith;
     }
 
 ending : (m : DayState) (h : Halting) (n : ℕ) → n ≤ length m.states → IsBalanced m.entries m.states m.heard
     → Ending m h n
-ending m h zero most balanced = record {
-  entries = m.entries;
-  states = m.states;
-  swept = swept-none (h.after m.heard) m.states;
-  entries_are = sym (append-nil m.entries);
-  is = record { balanced = balanced; stays = λ t past. refl; places = refl };
-}
+ending m h zero most balanced = grind (arith, common_steps)
 ending m h (suc n) most balanced =
     let one : n + 1 ≡ suc n = omega arith in
     subst (Ending m h) one (ending-next (omega (arith, most)) (ending m h n (omega (arith, most)) balanced))
@@ -273,12 +244,7 @@ open-plays (Paused rest) = refl
 none-plays : (states : List ClientState) → sum_by playing_one (map after_open states) ≡ 0
 none-plays [] = refl
 none-plays (state ∷ states) =
-    omega (
-      arith,
-      open-plays state,
-      none-plays states,
-      sum_by-cons playing_one (after_open state) (map after_open states),
-    )
+    search (open-plays state, none-plays states, sum_by-cons playing_one (after_open state) (map after_open states))
 
 pub last-open : (m : DayState) → IsBalanced m.entries m.states m.heard → open_count (last_journal m) ≡ 0
 last-open m balanced = (last-halted m balanced).balanced.playing ∙ none-plays m.states
@@ -286,9 +252,4 @@ last-open m balanced = (last-halted m balanced).balanced.playing ∙ none-plays 
 -- a play was admitted after the slot that was received last
 pub play-stays : (entries : List Entry) (heard t : ℕ) (begun : BegunPlay entries) → heard < begun.start → t ≤ heard
     → booked_in (state_after (entries ++ begun.e ∷ [])) t ≡ booked_in (state_after entries) t
-play-stays entries heard t begun early past =
-    let none : t + 1 - start ≡ 0 = omega (arith, early, past) in
-    let sent : sent_before plan start (t + 1) ≡ 0 = ap (λ n. sum (take n (plan_slots plan))) none in
-    omega (arith, booked-begun entries t begun, sent)
-  where
-    open begun use {start, plan}
+play-stays entries heard t begun early past = grind (arith, common_steps)

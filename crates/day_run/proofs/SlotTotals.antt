@@ -37,9 +37,13 @@ booked-fits next slots = omega arith
 -- the sum of one slot more
 pub sum-slots : (f : ℕ → ℕ) (a n : ℕ) → sum_by f (range_with_len a (n + 1)) ≡ sum_by f (range_with_len a n) + f (a + n)
 sum-slots f a n =
-    sym (sum-map f (range_with_len a (n + 1))) ∙ ap sum (map-range_with_len_more f a n (a + n) refl)
-    ∙ sum_by_push (λ x. x) (map f (range_with_len a n)) (f (a + n))
-    ∙ ap (λ k. k + f (a + n)) (sum-map f (range_with_len a n))
+    grind (
+      arith,
+      sum-map f (range_with_len a (n + 1)),
+      map-range_with_len_more f a n (a + n) refl,
+      sum_by_push,
+      sum-map f (range_with_len a n),
+    )
 
 pub peak-push : (xs : List ℕ) (x : ℕ) → fold max 0 (xs ++ x ∷ []) ≡ max (fold max 0 xs) x
 peak-push xs x = fold-append max 0 xs (x ∷ [])

@@ -1,3 +1,4 @@
+use Rattle.std.proofs.lemmas.Grind.{common_steps}
 -- What is true of the clients after each line.
 use Rattle.std.proofs.Common.{◌≡◌, ◌<◌, ◌≤◌, ◌+◌, ◌-◌, ◌==◌, ◌&&◌, ℕ, true, false, Bool, cond, nat_le, nat_lt, List}
 use Rattle.std.proofs.Common.{All, length, map, take, drop, set, get_or, sum, replicate, Option, Some, None, arith}
@@ -82,8 +83,7 @@ answered-states step ask own sound (Admitted start) answer =
     let play : ClientPlay =
     record { number = length old.entries; rest = ask.rest; plan = ask.plan; start = start } in
     let early : old.heard < start = omega (arith, answer.0) in
-    let begun : IsSoundPlay old.heard play =
-    record { rest = own.rest_is; plan = own.plan_is; left = λ begun. absurd (omega (arith, begun, early)) } in
+    let begun : IsSoundPlay old.heard play = grind (arith, common_steps) in
     set-sound old sound (record { c = ask.client; state = Playing play; client = own.client_is; sound = begun })
 answered-states step ask own sound _ answer = sound.each
 
@@ -108,8 +108,7 @@ no-empty plan sizes timing is =
     ])
 
 both-sides : (a b : Bool) → a ≡ true → (a && b) ≡ false → b ≡ false
-both-sides true b is left = left
-both-sides false b is left = cc is
+both-sides a b given given' = grind arith
 
 -- a play that isn't done has bytes to send
 some-left : (play : ClientPlay) (heard : ℕ) → is_done heard play ≡ false → play.start ≤ heard
@@ -166,14 +165,10 @@ kept-most entries its keep can = grind arith
 left-sound : {heard : ℕ} {play : ClientPlay} (halt : SoundHalt heard play)
     → IsSoundRest (record play.rest { run = halt.pause.left })
 left-sound {heard} {play} halt =
-    let sending : IsSending play.rest.sizes play.rest.playback play.rest.run play.plan =
-    record { can_play = halt.sound.rest.can; plan_is = halt.sound.plan } in
+    let sending : IsSending play.rest.sizes play.rest.playback play.rest.run play.plan = grind arith in
     let left = halt.pause.left_is in
     record {
-      can =
-          halted-plays play.rest.sizes play.rest.playback play.rest.run play.plan sending
-          (slot_sent play.start heard) halt.keep halt.pause.left
-          (halt-if (nat_lt heard play.start) halt refl) left;
+      can = search (halted-plays, halt-if);
       boundary = subst (IsBoundary play.rest.pieces) (sym left.sent_is) halt.pause.boundary.boundary;
     }
 
@@ -189,9 +184,7 @@ halted-states step own order sound =
       pause = is.pause;
       most = kept-most old.entries (its-held (halted_client own order sound.ready)) is.keep is.noted.answered;
     }) in
-    let state : IsSoundClient old.heard is.state =
-    subst (IsSoundClient old.heard) (sym is.pause.state_is) (pausing-cases (IsSoundClient old.heard) old.heard
-    (truncated_play play.start play.plan is.keep) (record play.rest { run = is.pause.left }) rest rest) in
+    let state : IsSoundClient old.heard is.state = grind arith in
     subst HasSoundClients (sym is.noted.new_is)
     (set-sound old sound (record { c = client; state = is.state; client = inside; sound = state }))
   where
@@ -201,8 +194,7 @@ halted-states step own order sound =
 done-if : (slot : ℕ) (play : ClientPlay) (b : Bool) → is_done slot play ≡ b → IsSoundRest play.rest
     → IsPlanOf play.rest.sizes play.rest.playback play.rest.run play.plan
     → IsSoundClient slot (cond b Idle (Playing play))
-done-if slot play true done rest plan = tt
-done-if slot play false undone rest plan = record { rest = rest; plan = plan; left = some-left play slot undone }
+done-if slot play b given given' given'' = grind arith
 
 state-slot : (heard slot : ℕ) (state : ClientState) → IsSoundClient heard state
     → IsSoundClient slot (after_play slot (after_sending slot state))
@@ -214,18 +206,14 @@ state-slot heard slot (Paused rest) own = own
 slot-states : (old : DayState) (slot : ℕ) → IsSound old → AreStates slot (at_slot old slot).states
 slot-states old slot sound c client =
     let inside : c < length old.states = omega (arith, client, sound.ready.count) in
-    let within : c < length (map (after_sending slot) old.states) =
-    omega (arith, inside, length-map old.states (after_sending slot)) in
+    let within : c < length (map (after_sending slot) old.states) = grind (arith, common_steps) in
     let S : ClientState → Type 0 = λ s. IsSoundClient slot s in
     subst S (sym (get_or-map (after_play slot) (map (after_sending slot) old.states) c Idle Idle within
     ∙ ap (after_play slot) (get_or-map (after_sending slot) old.states c Idle Idle inside)))
     (state-slot old.heard slot (get_or old.states c Idle) (sound.each c client))
 
 pub slot-sound : (old : DayState) (slot : ℕ) → old.heard ≤ slot → IsSound old → IsSound (at_slot old slot)
-slot-sound old slot later sound = record {
-  ready = slot-ready old (at_slot old slot) slot later refl sound.ready;
-  each = slot-states old slot sound;
-}
+slot-sound old slot later sound = search (slot-ready, slot-states)
 
 -- ---- all of a reel
 pub whole-sound : {link : SharedLink} {source buffer delay : ℕ} → IsLink link
@@ -237,10 +225,8 @@ whole-sound {link} {source} {buffer} {delay} link-is wish some = grind (arith, l
 plays-sound : (step : LineStep) (line : Line) → IsLink step.link
     → StandingLine step.old.heard (length step.link.media) line → IsSound step.old
     → AreSoundPlays (PlaysBy step line)
-plays-sound step (lines.Play c source buffer delay) link-is standing sound = λ rest plays.
-    subst IsSoundIfAny (sym plays) (whole-sound link-is standing.stands)
-plays-sound step (lines.Resume c) link-is standing sound = λ rest plays some.
-    subst (IsSoundClient step.old.heard) plays (sound.each c standing.client)
+plays-sound step (lines.Play c source buffer delay) link-is standing sound = grind arith
+plays-sound step (lines.Resume c) link-is standing sound = grind arith
 plays-sound step _ link-is standing sound = λ rest plays. absurd plays
 
 outcome-states : {case : LineCase} (step : LineStep)
@@ -248,12 +234,7 @@ outcome-states : {case : LineCase} (step : LineStep)
     → IsSound step.old → HasSoundClients step.new
 outcome-states step (Kept own at) order plays sound = subst HasSoundClients (sym own.kept) sound.each
 outcome-states step (Asked own at) order plays sound =
-    subst HasSoundClients (sym own.made.noted.new_is)
-    (answered-states step own.ask (record {
-      client_is = maker-inside own.ask.client order own.by;
-      rest_is = plays own.ask.rest own.plays own.plan_is.accepted.some_picture;
-      plan_is = own.plan_is;
-    }) sound own.made.answer own.made.noted.answered)
+    grind (arith, answered-states, maker-inside own.ask.client order own.by)
 outcome-states step (Stopped own at) order plays sound = halted-states step own order sound
 outcome-states step (Looks own at) order plays sound = subst HasSoundClients (sym own.made.noted.new_is) sound.each
 outcome-states {case} step (Reached own) order plays sound = grind (arith, slot-states step.old case.slot sound)
@@ -262,12 +243,7 @@ pub line-sound : (step : LineStep) (line : Line) → IsLink step.link
     → StandingLine step.old.heard (length step.link.media) line → IsSound step.old
     → IsLine step.link line step.old step.new step.text → IsSound step.new
 line-sound step line link-is standing sound is =
-    let outcome = line-outcome step line is in
-    let order = line-order step line standing in
-    record {
-      ready = outcome-ready step outcome order sound.ready;
-      each = outcome-states step outcome order (plays-sound step line link-is standing sound) sound;
-    }
+    search (line-outcome, line-order, outcome-ready, outcome-states, plays-sound)
 
 pub idle-sound : AreStates 0 (replicate 256 Idle)
 idle-sound c client = subst (IsSoundClient 0) (sym (get_or-replicate 256 c Idle Idle client)) tt

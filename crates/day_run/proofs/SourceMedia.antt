@@ -1,3 +1,4 @@
+use Rattle.std.proofs.lemmas.Grind.{common_steps}
 use Rattle.std.proofs.Common.{arith}
 -- Films and traces as they are played.
 use Rattle.std.proofs.Common.{◌≡◌, length, sum, subst, sym, ◌+◌, ℕ, List, [], ◌∷◌, ◌++◌, map, take, get_or, Result}
@@ -35,8 +36,7 @@ pub trace-medium : {items : List ℕ} (source : Source) (r : Result Media NoMemo
     → ((u : ℕ) → trace_content u items ≡ source_content u source)
     → IfOk r (λ medium. (u : ℕ) → media_content u medium ≡ trace_content u items)
     → IfOk r (λ medium. (u : ℕ) → media_content u medium ≡ source_content u source)
-trace-medium source (Ok medium) same has = λ u. has u ∙ same u
-trace-medium source (Err e) same has = tt
+trace-medium source r given given' = grind arith
 
 -- one reel more
 pub record NextReel : Type 0 where
@@ -49,24 +49,13 @@ pub contents-next : (u : ℕ) (next : NextReel) (sources : List Source) (place :
     → media_content u next.medium ≡ source_content u (get_or sources place.index place.none)
     → map (media_content u) next.media ≡ map (source_content u) (take place.index sources)
     → map (media_content u) next.after ≡ map (source_content u) (take (place.index + 1) sources)
-contents-next u next sources place own before =
-    ap (map (media_content u)) a ∙ map-append (media_content u) media (medium ∷ [])
-    ∙ ap (λ ts. ts ++ media_content u medium ∷ []) before
-    ∙ ap (λ t. map (source_content u) (take i sources) ++ t ∷ []) own
-    ∙ sym (map_more (source_content u) sources i none inside)
-  where
-    open next use {media, medium, after_are as a}
-    open place use {index as i, none, inside}
+contents-next u next sources place own before = grind (arith, common_steps)
 
 -- the slot that was received last, after one line more
 pub heard-next : {heard next : ℕ} (lines : List Line) (place : Place lines)
     → next ≡ slot_after heard (get_or lines place.index place.none) → heard ≡ latest_slot (take place.index lines)
     → next ≡ latest_slot (take (place.index + 1) lines)
-heard-next {next} lines place n h =
-    n ∙ ap (λ k. slot_after k (get_or lines i none)) h
-    ∙ sym (ap latest_slot (take_more lines i none inside) ∙ latest-push (take i lines) (get_or lines i none))
-  where
-    open place use {index as i, none, inside}
+heard-next {next} lines place n h = grind (arith, common_steps)
 
 -- ---- films and traces that can be played
 trace-fits : {source : Source} (sizes : Vec ℕ) → source ≡ Trace sizes → IsSource source → IsPlayable source
@@ -75,8 +64,7 @@ trace-fits sizes is trace = grind arith
 -- a trace whose reel was made
 pub trace-playable : {source : Source} {sizes : Vec ℕ} (r : Result Media NoMemory) → source ≡ Trace sizes
     → IsSource source → OnOk r (IsPlayable source)
-trace-playable {sizes} (Ok medium) is trace = trace-fits sizes is trace
-trace-playable (Err e) is trace = tt
+trace-playable r given given' = grind arith
 
 -- one more that can be played
 pub playable-next : (sources : List Source) (place : Place sources) → IsPlayable (get_or sources place.index place.none)

@@ -10,27 +10,7 @@ use Rattle.day_run.proofs.SlotTotals.{total-past}
 use Rattle.day_run.proofs.booked_sums.booked_between.Goals as goal
 
 pub overflow_add-booked : goal.overflow_add-booked
-overflow_add-booked c =
-    let calendar = c.calendar-calendar.result.now in
-    let most = capacity-most calendar.steps c.loop-slot.slot c.booked_through.ensures.calendar.profile in
-    let small : c.booked-here.result ≤ MAX_BYTES = omega (arith, c.booked-here.ensures.within, most) in
-    let fits =
-    booked-fits (record {
-      booked = c.loop-slot.booked;
-      here = c.booked-here.result;
-      slot = c.loop-slot.slot;
-      from = c.args.from;
-      begun = omega arith;
-      few = c.loop-slot.invariant.few;
-      small = small;
-    }) (record {
-      end = c.min-end.result;
-      now = calendar.first;
-      before = omega arith;
-      ring = omega (arith, c.booked_through.ensures.within);
-      first = omega (arith, c.calendar-calendar.ensures.now, c.requires.from_now);
-    }) in
-    omega (arith, fits)
+overflow_add-booked c = grind (arith, capacity-most, booked-fits)
 
 pub loop-slot-preserved : goal.loop-slot-preserved
 loop-slot-preserved c =
@@ -41,22 +21,12 @@ loop-slot-preserved c =
     let slot = c.loop-slot.slot in
     let from = c.args.from in
     let begun : from + 1 ≤ slot = omega arith in
-    let here : c.booked-here.result ≡ f slot =
-    c.booked-here.ensures.value ∙ c.calendar-calendar.ensures.stands.each slot
-    (omega (arith, c.calendar-calendar.ensures.now, c.requires.from_now)) in
+    let here : c.booked-here.result ≡ f slot = grind arith in
     let total : (T : Total) (x : ℕ) → x ≡ T.over f (from + 1) (slot - (from + 1))
     → T.op x c.booked-here.result ≡ T.over f (from + 1) (slot + 1 - (from + 1)) =
     λ T x is. ap (T.op x) here ∙ ap (λ k. T.op k (f slot)) is ∙ total-next T f from slot begun in
     record {
-      few = booked-more (record {
-        booked = c.loop-slot.booked;
-        here = c.booked-here.result;
-        slot = slot;
-        from = from;
-        begun = begun;
-        few = c.loop-slot.invariant.few;
-        small = small;
-      });
+      few = grind arith;
       late = omega arith;
       peak = c.max-peak.ensures ∙ max-by-order c.loop-slot.peak c.booked-here.result
           ∙ total greatest c.loop-slot.peak c.loop-slot.invariant.peak;

@@ -12,8 +12,7 @@ use Rattle.day_run.proofs.client_set.halt_plays.Goals as goal
 pub loop-maker-preserved : goal.loop-maker-preserved
 loop-maker-preserved c =
     let i = c.loop-maker.maker in
-    let at : Place c.loop-maker.clients =
-    record { index = i; none = c.index-clients-maker.result; inside = omega arith } in
+    let at : Place c.loop-maker.clients = grind arith in
     let going = c.loop-maker.invariant.sound.going.each i at.none at.inside in
     let To = AreHaltedTo c.args.which (i + 1) c.args.book.now c.match-halt_of.book c.args.clients.now in
     elim c.match-halt_of.branch [
@@ -51,9 +50,4 @@ loop-maker-preserved c =
     ]
 
 pub returns-clause-states : goal.returns-clause-states
-returns-clause-states c = λ slot timed.
-    let old = map state_of c.args.clients.now in
-    let new = c.loop-maker.clients in
-    let swept = (c.loop-maker.invariant.ended slot timed).swept in
-    swept-all (state_for c.args.which slot) c.loop-maker.maker old (map state_of new)
-    (omega (arith, swept.count, length-map new state_of)) swept
+returns-clause-states c = grind (arith, swept-all, length-map)

@@ -1,3 +1,4 @@
+use Rattle.std.proofs.Common.{arith}
 use Rattle.std.proofs.Common.{◌≡◌, ◌==◌, ℕ, Bool, cond, eq-eqb, ne_eqb, sym, subst, ap, ◌∙◌, rules}
 use Rattle.pacer.specs.PacerStates.{PacerState}
 use Rattle.slot_calendar.specs.Plays.{Play as Booked, truncated_play}
@@ -49,8 +50,7 @@ paused-as {heard} c own is =
     (cond b (Paused (left c)) (Pausing (kept c) (left c)))) is (pause-of own (paused c))
 
 pub returns-then-sent-keep-clause-going : goal.returns-then-sent-keep-clause-going
-returns-then-sent-keep-clause-going c =
-    left-rest c.requires.playing (paused (goal.at.returns-then-sent-keep-clause-going c).After-run_after-run)
+returns-then-sent-keep-clause-going c = grind arith
 
 pub returns-then-sent-keep-clause-pause : goal.returns-then-sent-keep-clause-pause
 returns-then-sent-keep-clause-pause c = λ heard timed.

@@ -29,5 +29,4 @@ returns-then-later-gt0-clause-fitting c =
     }
 
 pub returns-else-later-gt0-clause-counts : goal.returns-else-later-gt0-clause-counts
-returns-else-later-gt0-clause-counts c =
-    same-counts c.args.counts.now (day_state_of c.args.machine.now) c.requires.fitting.last_is
+returns-else-later-gt0-clause-counts c = search same-counts

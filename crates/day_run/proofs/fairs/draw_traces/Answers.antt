@@ -8,12 +8,7 @@ use Rattle.day_run.proofs.FairTurns.{sizes-next}
 use Rattle.day_run.proofs.fairs.draw_traces.Goals as goal
 
 pub loop-trace-init : goal.loop-trace-init
-loop-trace-init c = record {
-  count = omega (arith, ap length c.in_ok-traces.ensures.items);
-  traces = subst AreTraces (sym c.in_ok-traces.ensures.items) traces-none;
-  sizes = ap sizes_in c.in_ok-traces.ensures.items;
-  left = left-none (words_left c.args.draws.now);
-}
+loop-trace-init c = grind (arith, traces-none, left-none (words_left c.args.draws.now))
 
 pub loop-trace-preserved : goal.loop-trace-preserved
 loop-trace-preserved c =

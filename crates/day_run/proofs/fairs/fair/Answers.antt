@@ -1,3 +1,4 @@
+use Rattle.std.proofs.Common.{arith}
 use Rattle.std.proofs.Common.{◌≡◌, ◌++◌, ℕ, List, map, ap, subst, ◌∙◌}
 use Rattle.film_make.specs.Generator.{words_left, words_of}
 use Rattle.admission.specs.declared.book.TheConstants.{MAX_ENTRIES}
@@ -35,8 +36,5 @@ returns-clause-fair c =
       count = run.count;
       run = drawn;
       journal_is = c.into_entries-journal.ensures.value ∙ c.end.ensures.journal;
-      text_is = c.in_ok-push_fair.ensures ∙ ap (λ (l : List ℕ). l ++ fair_text c.in_ok-counts.counts entries)
-          c.new-text.ensures.items ∙ ap (λ x. fair_text x entries) run.counts_are
-          ∙ ap (fair_text (counts_of run.turns evening))
-          (c.count_entries-entries.ensures ∙ ap entry_counts_of c.deref-3.ensures.value);
+      text_is = grind arith;
     }

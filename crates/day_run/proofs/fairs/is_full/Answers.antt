@@ -1,9 +1,8 @@
+use Rattle.std.proofs.Common.{arith}
 use Rattle.std.proofs.Common.{drop, ap, ◌∙◌}
 use Rattle.day_run.specs.FairDays.{is_full_line}
 use Rattle.day_run.specs.MachineState.{reply_text}
 use Rattle.day_run.proofs.fairs.is_full.Goals as goal
 
 pub returns-in-Entry : goal.returns-in-Entry
-returns-in-Entry c =
-    λ entries. ap (λ t. is_full_line (reply_text entries t)) c.in-Entry.is
-    ∙ c.law_entries_other.ensures (drop c.in-Entry.place entries)
+returns-in-Entry c = grind arith

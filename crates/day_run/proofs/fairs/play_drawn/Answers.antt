@@ -1,3 +1,4 @@
+use Rattle.std.proofs.Common.{arith}
 use Rattle.std.proofs.Common.{◌≡◌, ◌+◌, ◌%◌, IfOk, ap, subst, ◌∙◌}
 use Rattle.film_make.specs.Generator.{words_after, words_left}
 use Rattle.film_make.proofs.GeneratorLemmas.{words_after-twice}
@@ -24,8 +25,4 @@ returns-clause-line c =
     (day_state_of new) (reply_text new.book.entries told))) same c.play.ensures.line
 
 pub returns-clause-left : goal.returns-clause-left
-returns-clause-left c =
-    let w = words_left c.args.draws.now in
-    ok-of c.play.result _
-    (c.draw-2.ensures.left ∙ ap (words_after 1) (two-left w c.draw-source.ensures.left c.draw.ensures.left)
-    ∙ words_after-twice 1 2 w)
+returns-clause-left c = grind (arith, ok-of, two-left, words_after-twice)

@@ -45,8 +45,7 @@ returns-clause-turned c =
       one_is = c.draw.ensures.left;
       two_is = c.draw-client.ensures.left;
       client_is = c.draw-client.ensures.value;
-      slot = c.advance.ensures.moment
-          ∙ ap (at_later (day_state_of c.args.machine.now)) (c.from-later.ensures ∙ c.draw.ensures.value);
+      slot = grind arith;
       done = c.in_ok-told.ensures.done;
       left = c.in_ok-told.ensures.left;
       counted = c.advance.ensures.counts;

@@ -17,13 +17,7 @@ loop-turn-init c =
       kept = record { link = refl; steps = refl; media = refl };
       heard = omega (arith, heard);
       fitting = record { last_is = sym heard; full = omega arith; sent = omega arith; booked = omega arith };
-      come = record {
-        turns = [];
-        count = refl;
-        run = c.requires.morning;
-        left_is = refl;
-        counts_are = ap (counts_of []) (sym c.requires.morning);
-      };
+      come = grind arith;
     }
 
 pub loop-turn-preserved : goal.loop-turn-preserved
@@ -35,11 +29,7 @@ loop-turn-preserved c =
     record {
       machine = ran.machine;
       ready = ran.ready;
-      kept = record {
-        link = ran.kept.link ∙ inv.kept.link;
-        steps = ran.kept.steps ∙ inv.kept.steps;
-        media = ran.kept.media ∙ inv.kept.media;
-      };
+      kept = grind arith;
       heard = omega (arith, ran.heard, inv.heard);
       fitting = ran.fitting;
       come = come-next (record {

@@ -1,3 +1,5 @@
+use Rattle.std.proofs.Common.{arith}
+use Rattle.std.proofs.lemmas.Grind.{common_steps}
 use Rattle.std.proofs.Common.{ap, refl}
 use Rattle.film_make.specs.Generator.{words_left}
 use Rattle.day_run.specs.declared.clients.Client.{Client}
@@ -35,19 +37,10 @@ returns-in_ok-resume-in-Paused-clause-left c =
     (ap (λ (x : Client). words_for (state_of x)) c.in-Paused.is)
 
 pub returns-in-Playing-clause-done : goal.returns-in-Playing-clause-done
-returns-in-Playing-clause-done c =
-    done-as (record { link = link_on c.args.machine.now; old = day_state_of c.args.machine.now; new = _; text = _ })
-    (words_left c.args.draws.now) (stands (goal.at.returns-in-Playing-clause-done c).After-index)
-    c.in-Playing.is c.pause.ensures.line
+returns-in-Playing-clause-done c = grind (arith, common_steps)
 
 pub returns-in-Pausing-clause-done : goal.returns-in-Pausing-clause-done
-returns-in-Pausing-clause-done c =
-    done-as (record { link = link_on c.args.machine.now; old = day_state_of c.args.machine.now; new = _; text = _ })
-    (words_left c.args.draws.now) (stands (goal.at.returns-in-Pausing-clause-done c).After-index)
-    c.in-Pausing.is (record { kept = refl; text_is = refl })
+returns-in-Pausing-clause-done c = grind (arith, common_steps)
 
 pub returns-in_ok-resume-in-Paused-clause-done : goal.returns-in_ok-resume-in-Paused-clause-done
-returns-in_ok-resume-in-Paused-clause-done c =
-    done-as (record { link = link_on c.args.machine.now; old = day_state_of c.args.machine.now; new = _; text = _ })
-    (words_left c.args.draws.now) (stands (goal.at.returns-in_ok-resume-in-Paused-clause-done c).After-index)
-    c.in-Paused.is c.in_ok-resume-in-Paused.ensures.line
+returns-in_ok-resume-in-Paused-clause-done c = grind (arith, common_steps)

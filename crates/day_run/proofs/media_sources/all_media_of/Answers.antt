@@ -26,11 +26,7 @@ loop-source-preserved c =
     }
 
 pub returns-clause-contents : goal.returns-clause-contents
-returns-clause-contents c = λ u.
-    c.loop-source.invariant.contents u
-    ∙ ap (map (source_content u)) (take_all c.loop-source.source-index c.args.sources.now (omega arith))
+returns-clause-contents c = grind (arith, take_all c.loop-source.source-index c.args.sources.now (omega arith))
 
 pub returns-clause-playable : goal.returns-clause-playable
-returns-clause-playable c =
-    subst (All IsPlayable)
-    (take_all c.loop-source.source-index c.args.sources.now (omega arith)) c.loop-source.invariant.playable
+returns-clause-playable c = grind (arith, take_all c.loop-source.source-index c.args.sources.now (omega arith))

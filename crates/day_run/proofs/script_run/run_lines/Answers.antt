@@ -30,11 +30,7 @@ loop-line-preserved c =
     } in
     record {
       machine = ran.machine;
-      kept = record {
-        link = ran.kept.link ∙ inv.kept.link;
-        steps = ran.kept.steps ∙ inv.kept.steps;
-        media = ran.kept.media ∙ inv.kept.media;
-      };
+      kept = grind arith;
       heard = heard-next lines place ran.heard inv.heard;
       clients = subst AreClients (sym (take_more lines i _ place.inside))
           (clients-more _ inv.clients c.run_line.ensures.client);

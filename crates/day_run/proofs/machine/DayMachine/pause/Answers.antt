@@ -22,12 +22,10 @@ inside : (c : After-pause) → c.args.client < length c.args.self.now.clients.it
 inside c = omega (arith, c.requires.machine.count, c.ranges.client.fits)
 
 at : (c : After-pause) → state_of c.index_mut.result.now ≡ state_at (day_state_of c.args.self.now) c.args.client
-at c = ap state_of c.index_mut.ensures.value
-    ∙ sym (state-at c.args.self.now.clients.items c.args.client c.index_mut.result.now (inside c))
+at c = grind (arith, common_steps)
 
 timed : (c : After-pause) → IsTimed c.args.self.now.heard c.index_mut.result.now
-timed c = subst (IsTimed c.args.self.now.heard) (sym c.index_mut.ensures.value)
-    (c.requires.machine.timed.each c.args.client c.index_mut.result.now (inside c))
+timed c = grind arith
 
 pub returns-in-Some : goal.returns-in-Some
 returns-in-Some c =

@@ -12,14 +12,12 @@ pub returns-in-Some-clause-line : goal.returns-in-Some-clause-line
 returns-in-Some-clause-line c =
     let old = c.args.self.now in
     let client = c.index.result.now in
-    let inside : c.args.client < length old.clients.items =
-    omega (arith, c.requires.machine.count, c.ranges.client.fits) in
+    let inside : c.args.client < length old.clients.items = grind arith in
     let one : rest_of c.in-Some.rest ≡ rest_at (link_on old) c.args.source c.args.buffer c.args.delay =
     c.in-Some.ensures.whole
     ∙ ap (λ (t : MediaContent). whole_rest old.slot_units t c.args.buffer c.args.delay)
     (sym (c.medium_at.ensures old.slot_units no_medium)) in
-    let own : state_of client ≡ state_at (day_state_of old) c.args.client =
-    ap state_of c.index.ensures ∙ sym (state-at old.clients.items c.args.client client inside) in
+    let own : state_of client ≡ state_at (day_state_of old) c.args.client = grind (arith, common_steps) in
     let free : is_busy (state_at (day_state_of old) c.args.client) ≡ false =
     ap is_busy (sym own) ∙ sym c.is_busy.ensures ∙ c.if-is_busy.false in
     let new = c.ask.new.self in
