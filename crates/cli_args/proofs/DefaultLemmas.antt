@@ -150,7 +150,8 @@ give_same command words default left =
           refl (own (codes "journal") (codes "65536") refl);
       port = added_same (number_or DEFAULT_PORT 1 MAX_PORT) default refl (own (codes "port") (codes "8554") refl);
       bind = added_same one_bind default refl (own (codes "bind") (codes "local") refl);
-      workers = added_same (number_or DEFAULT_WORKERS 1 MAX_WORKERS) default refl (own (codes "workers") (codes "32") refl);
+      workers = added_same (number_or DEFAULT_WORKERS 1 MAX_WORKERS) default refl
+          (own (codes "workers") (codes "32") refl);
       connections = added_same (number_or 0 0 (2 ^ 64 - 1)) default refl (own (codes "connections") (codes "0") refl);
     }
 

@@ -19,7 +19,8 @@ use Rattle.cli_args.specs.Invocations.{invocation_from, source_given, client_giv
 pub meaning_of : (name : List ℕ) (command : Subcommand) (words : List (List ℕ)) → subcommand_named name ≡ Some command →
     invocation_from (name ∷ words) ≡ command_invocation words command
 meaning_of name command words named =
-    ap (λ (b : Bool). if b then lone_invocation help words else if bytes_eq name (codes "--version") then lone_invocation
+    ap (λ (b : Bool). if b then lone_invocation help words else if bytes_eq name (codes "--version")
+    then lone_invocation
     version words else option_and_then (command_invocation words) (subcommand_named name)) (other (codes "--help") refl)
     ∙ ap (λ (b : Bool). if b then lone_invocation version words else option_and_then (command_invocation words)
     (subcommand_named name)) (other (codes "--version") refl)

@@ -59,7 +59,8 @@ pub record IsCorner (f : Funnel) (b : Point) : Type 0 where
       → IsInside f.side f.sight.apex b (on_curve f.other j)
   pub crossed : IsInside f.side f.sight.apex b (on_curve f.curve f.sight.reach)
 
-pub corner_of : {f : Funnel} {b : Point} → IsCrossing f → IsOrdered f.side (f.curve f.sight.reach) (f.other f.sight.reach)
+pub corner_of : {f : Funnel} {b : Point} → IsCrossing f
+    → IsOrdered f.side (f.curve f.sight.reach) (f.other f.sight.reach)
     → IsCrossed f.side f.sight.apex f.others (on_curve f.curve f.sight.reach) b → IsCorner f b
 corner_of {f} {b} state ordered crossed =
     let edge = (subst (IsChain (other_side side) other s o) crossed.is state.others).0 in
@@ -91,7 +92,8 @@ corner_of {f} {b} state ordered crossed =
     open f use {side, curve, other, sight.{apex as o, reach as t, other_reach as s}}
 
 -- seen from the corner, the new point is the furthest out
-edge_moves : {f : Funnel} {b p : Point} → IsFurthest (read_to f.side f.curve f.sight.reach) f.sight.apex p → IsCorner f b
+edge_moves : {f : Funnel} {b p : Point} → IsFurthest (read_to f.side f.curve f.sight.reach) f.sight.apex p
+    → IsCorner f b
     → p.place ≡ f.sight.reach → IsFurthest (read_to f.side f.curve f.sight.reach) b p
 edge_moves {f} {b} {p} edge corner at =
     let gone = corner.before_new in

@@ -57,7 +57,11 @@ segment_stays {lo} {hi} {o} {b} keeps =
             (keeps.low_within (o.place + i) (omega (arith, pos)) (omega (arith, upto, end))) in
             omega (arith, h, along i)
             )
-        | inr none ↦ omega (arith, mul-le-mul_right (b.place - o.place) keeps.above, at_start lo i (omega (arith, none)))
+        | inr none ↦ omega (
+          arith,
+          mul-le-mul_right (b.place - o.place) keeps.above,
+          at_start lo i (omega (arith, none)),
+        )
       ];
       below = λ i upto. elim (cases_lt 0 i) [
         | inl pos ↦ (
@@ -120,7 +124,12 @@ good_corner {limits} band Lower state {b} corner =
     let on = corner.on in
     let within : b.place ≤ limits.n = omega (arith, near, state.crossing.not_past, state.fits) in
     record {
-      rises = omega (arith, state.path.below, on, band.high_rises state.sight.apex.place b.place (omega (arith, later)) within);
+      rises = omega (
+        arith,
+        state.path.below,
+        on,
+        band.high_rises state.sight.apex.place b.place (omega (arith, later)) within,
+      );
       above = omega (arith, on, band.ordered b.place within);
       below = omega (arith, on);
     }
@@ -176,7 +185,8 @@ turn_at {limits} band state {b} corner good =
       on = sym (high o b good.rises) ∙ (corner.on ∙ ap other (sym end));
       far = t - o.place;
       later = omega (arith, later, new);
-      leaves = subst (λ p. IsPast side (ray_at o b (on_curve curve t)) (curve p * (b.place - o.place))) (sym far) crossed;
+      leaves = subst (λ p. IsPast side (ray_at o b (on_curve curve t)) (curve p * (b.place - o.place))) (sym far)
+          crossed;
       free = λ i past upto.
           let at : o.place + i - o.place ≡ i = omega arith in
           subst (λ j. IsPast side (o.height * (b.place - o.place) + j * (b.height - o.height))
@@ -228,7 +238,8 @@ path_bends {limits} band state {b} corner =
         goes_on = subst (λ a. GoesOn a limits.from (segments ++ to ∷ []))
             (same_start (start_at limits.lo limits.hi b.place b.height) place height) (record {
               on = λ rest one runs.
-                  subst (RunsTaut (start_at limits.lo limits.hi 0 limits.from)) (sym (append_assoc segments (to ∷ []) rest))
+                  subst (RunsTaut (start_at limits.lo limits.hi 0 limits.from))
+                  (sym (append_assoc segments (to ∷ []) rest))
                   (path.goes_on.on (to ∷ rest) (turn_slope state.side turn)
                   (turn.stays, turn_bends state.side rest turn one, runs));
             });

@@ -99,7 +99,8 @@ turn_bends side {at} {s} (next ∷ rest) turn one =
     let meets = meets_on side one in
     let i = turn.far - s.slots in
     let is : s.slots + i ≡ turn.far = omega (arith, turn.later) in
-    let slope : IsPast side (s.bytes * next.slots) (next.bytes * s.slots) = elim (cases_lt turn.far (s.slots + meets.far)) [
+    let slope : IsPast side (s.bytes * next.slots) (next.bytes * s.slots) = elim
+    (cases_lt turn.far (s.slots + meets.far)) [
       | inl past ↦
           turns_by side bend i (own_of side at turn.far)
           (subst (λ f. IsPast side (ray at s f) (own_of side at turn.far * s.slots)) (sym is) turn.leaves)

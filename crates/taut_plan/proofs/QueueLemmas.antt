@@ -22,7 +22,8 @@ without_first points passed some =
 point_at_place : (links : List Link) (place : ℕ) (link : Link) → place < length links → link ≡ get_or links place link
     → (p : Point) → get_or (points_of links) place p ≡ link.point
 point_at_place links place link inside is p =
-    get_or_default (points_of links) place p link.point (omega (arith, inside, length-map links (λ (l : Link). l.point)))
+    get_or_default (points_of links) place p link.point
+    (omega (arith, inside, length-map links (λ (l : Link). l.point)))
     ∙ (get_or-map (λ (l : Link). l.point) links place link ∙ sym (ap (λ (l : Link). l.point) is))
 
 -- how many points are left
@@ -77,7 +78,8 @@ first_of {link} links passed inside is =
     record {
       rest = drop (passed + 1) (points_of links);
       is = drop_more (points_of links) passed link.point long
-          ∙ ap (λ (p : Point). p ∷ drop (passed + 1) (points_of links)) (point_at_place links passed link inside is link.point);
+          ∙ ap (λ (p : Point). p ∷ drop (passed + 1) (points_of links))
+          (point_at_place links passed link inside is link.point);
     }
 
 -- a link joins whose edge comes from the last point

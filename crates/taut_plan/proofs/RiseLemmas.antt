@@ -61,7 +61,8 @@ rising_on : (side : Side) (curve : ℕ → ℕ) (o q : Point) → IsRising side 
 rising_on Lower curve o q start le = tt
 rising_on Upper curve o q start le = omega (arith, start, le)
 
-rise_of : (first p : Point) (b : ℕ) → b ≡ p.height - first.height → first.height ≤ p.height → p.height ≡ first.height + b
+rise_of : (first p : Point) (b : ℕ) → b ≡ p.height - first.height → first.height ≤ p.height → p.height
+    ≡ first.height + b
 rise_of first p b is up = omega (arith, is, up)
 
 rising_itself : (side : Side) (curve : ℕ → ℕ) (p : Point) → p.height ≡ curve p.place
@@ -138,7 +139,8 @@ passed_is_within Lower first link point beyond passed =
     mul-le-mul_left e (omega (arith, beyond.is.bytes)) in
     omega (arith, test_sides Lower first link point beyond, up, passed)
 passed_is_within Upper first link point beyond passed =
-    let up = ap (λ n. (point.place - link.point.place) * n) (rise_of first link.point link.bytes beyond.is.bytes beyond.rising) in
+    let up = ap (λ n. (point.place - link.point.place) * n)
+    (rise_of first link.point link.bytes beyond.is.bytes beyond.rising) in
     omega (arith, test_sides Upper first link point beyond, up, passed)
 
 kept_is_inside : (side : Side) (first : Point) (link : Link) (point : Point) → GoesBeyond side first link point
@@ -150,7 +152,8 @@ kept_is_inside Lower first link point beyond kept =
       | inr fall ↦ (let none : e * link.bytes ≡ e * 0 = ap (λ n. e * n) fall.1 in absurd (omega (arith, none, kept)))
     ]
 kept_is_inside Upper first link point beyond kept =
-    let up = ap (λ n. (point.place - link.point.place) * n) (rise_of first link.point link.bytes beyond.is.bytes beyond.rising) in
+    let up = ap (λ n. (point.place - link.point.place) * n)
+    (rise_of first link.point link.bytes beyond.is.bytes beyond.rising) in
     omega (arith, test_sides Upper first link point beyond, up, kept)
 
 -- What is known where a point, that of the next place, is to join: the apex and the curve's points are of a plan, and

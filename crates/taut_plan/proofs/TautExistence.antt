@@ -203,7 +203,8 @@ reaches {limits} band (suc slot) fits =
       others = a.own;
       segments = a.segments;
       path = a.path;
-      funnel = funnel_turns (funnel_on limits.lo limits.hi Lower (funnel_reach (slot + 1) slot a.apex) a.own a.others) a.funnel;
+      funnel = funnel_turns (funnel_on limits.lo limits.hi Lower (funnel_reach (slot + 1) slot a.apex) a.own a.others)
+          a.funnel;
       reaches = known Upper slot;
     }) few in
     let here : Reaches limits (slot + 1) = record {

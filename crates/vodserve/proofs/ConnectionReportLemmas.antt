@@ -132,7 +132,8 @@ tells_its_journal before after seed serving ended (inl kept) status =
     subst (All (IsReportIn ended.journal.items)) (sym kept.1.2.1) (All-nil (IsReportIn ended.journal.items))
 tells_its_journal before after seed serving ended (inr served) status =
     subst (All (IsReportIn ended.journal.items))
-    (sym (reports_whole served.worked.left (ended_whole (record { before = before; after = after }) _ served.ends status)))
+    (sym (reports_whole served.worked.left
+    (ended_whole (record { before = before; after = after }) _ served.ends status)))
     (parts_told (work_of served) before.gate _ 0 served.worked.parts served.worked.each)
 
 -- ---- connections
@@ -238,7 +239,8 @@ part_long r =
     (back_of r).1.0).1
 
 -- each of them is correct, as the report at its place says
-connection_correct : {gate after : WorkerGate} (r : WorkerRun gate after) → IsLegal r.work.serving.capacity r.work.journal
+connection_correct : {gate after : WorkerGate} (r : WorkerRun gate after)
+    → IsLegal r.work.serving.capacity r.work.journal
     → (k : ℕ) (here : InsideBack (served_part r).back k) → IsConnectionCorrect r.work r.worker k
     (slice_index_or (served_part r).back k here.none) (slice_index_or r.report.reports.items k here.no_report)
 connection_correct r legal k here =

@@ -74,7 +74,8 @@ pub record WordAt (words : List (String Global)) (so_far : List (List ℕ)) (nam
 
 -- the films of the words, at the film of a word
 word_split : {words : List (String Global)} {so_far : List (List ℕ)} {name : List ℕ} (w : WordAt words so_far name)
-    → values_of (codes "film") (texts words) ≡ so_far ++ name ∷ values_of (codes "film") (texts (drop (w.place + 1) words))
+    → values_of (codes "film") (texts words) ≡ so_far
+    ++ name ∷ values_of (codes "film") (texts (drop (w.place + 1) words))
 word_split {words} {so_far} w =
     w.whole ∙ ap (λ (vs : List (List ℕ)). so_far ++ vs)
     (values_rest (codes "film") words w.place w.word w.inside w.at

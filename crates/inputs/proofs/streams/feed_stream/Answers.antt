@@ -51,7 +51,8 @@ loop-count-preserved g c =
         long = omega (arith, chunk_long so_far.seen c.read_at.new.into chunk, so_far.long);
         unwrapped = (c.in_default-unwrap_chunk.ensures {u = tt}).next so_far.seen so_far.unwrapped;
         front = λ held is.
-            front_more (stream_front (so_far.front held is)) (take c.in-Some.count c.read_at.new.into) (λ bytes front long.
+            front_more (stream_front (so_far.front held is)) (take c.in-Some.count c.read_at.new.into)
+            (λ bytes front long.
             rw c.in-Some.is at
             ((c.in_ok-count.ensures {u = tt}).told held bytes (c.loop-count.invariant.library.kept ∙ is) front
             (long ∙ so_far.long)));

@@ -7,4 +7,5 @@ write_digits-requires c =
     (omega (arith, length-decimal-le 20 c.args.number (omega arith) (omega arith) c.ranges.number.fits), search rules)
 
 pub returns-clause-short : goal.returns-clause-short
-returns-clause-short c = omega (arith, length-decimal-le 20 c.args.number (omega arith) (omega arith) c.ranges.number.fits)
+returns-clause-short c = omega
+    (arith, length-decimal-le 20 c.args.number (omega arith) (omega arith) c.ranges.number.fits)

@@ -39,7 +39,8 @@ crossing-requires-clause-fit c = first_fits c.loop-corner.others c.loop-corner.i
     open c.args use {curves.{now as curves}, side, slot}
 
     first_fits : (others : List Point)
-        → IsChain (other_side side) (side_of curves (other_side side)) (other_curve_reach side slot) c.loop-corner.path.apex
+        → IsChain (other_side side) (side_of curves (other_side side)) (other_curve_reach side slot)
+        c.loop-corner.path.apex
         others
         → FirstFits c.loop-corner.path.apex others c.in_ok-point.point
     first_fits [] chain = tt

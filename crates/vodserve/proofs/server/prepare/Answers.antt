@@ -26,7 +26,8 @@ returns-in_err-open-clause-error g c =
     handed_on _ c.from_residual-in_err-open.result c.from_residual-in_err-open.ensures.1 (
       (c.in_err-open.ensures {u = tt}).fault,
       record {
-        accepted = loaded_accepted (serve_args_of c.args.serving.now) _ c.in_ok-films.films.items ((c.in_ok-films.ensures {u = tt}).loaded);
+        accepted = loaded_accepted (serve_args_of c.args.serving.now) _ c.in_ok-films.films.items
+            ((c.in_ok-films.ensures {u = tt}).loaded);
         once = opened_once None before after lost;
         few = opened_few c.args.serving.now.listening.workers None before after lost c.requires.listening.workers.0;
       },
@@ -40,7 +41,8 @@ returns-in_err-station-clause-error g c =
     let opens : after ≡ option_map (after_open how) before = (c.in_ok-open.ensures {u = tt}).open in
     handed_on _ c.from_residual-in_err-station.result c.from_residual-in_err-station.ensures.1
     (inr (record {
-      accepted = loaded_accepted (serve_args_of c.args.serving.now) _ c.in_ok-films.films.items ((c.in_ok-films.ensures {u = tt}).loaded);
+      accepted = loaded_accepted (serve_args_of c.args.serving.now) _ c.in_ok-films.films.items
+          ((c.in_ok-films.ensures {u = tt}).loaded);
       once = opened_once how before after opens;
       few = opened_few c.args.serving.now.listening.workers how before after opens c.requires.listening.workers.0;
     }))

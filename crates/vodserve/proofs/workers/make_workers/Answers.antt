@@ -36,7 +36,8 @@ loop-number-preserved g c =
       made = omega (arith, ap length items, length-append workers (worker ∷ []), inv.made);
       seat = c.split-in-loop-number.ensures.same ∙ ap after_split inv.seat;
       workers = subst (AreWorkers told faults c.args.station.now 0) (sym items)
-          (workers_push 0 workers inv.workers (record { number = omega (arith, inv.made); is = new_is_worker worker new }));
+          (workers_push 0 workers inv.workers
+          (record { number = omega (arith, inv.made); is = new_is_worker worker new }));
       fresh = subst (All (IsFresh told faults)) (sym items)
           (All-push (IsFresh told faults) workers worker inv.fresh (new_is_fresh worker new));
       opened = split_open (told c.loop-number.gate) (told c.split.new.self) inv.opened gave.split;

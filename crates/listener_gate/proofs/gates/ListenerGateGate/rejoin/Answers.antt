@@ -9,4 +9,5 @@ invariant_of-self g c = record {
 
 pub returns-clause-joined : goal.returns-clause-joined
 returns-clause-joined g c =
-    rejoin_told (view_of g.L.Listener g.L.Conn.Link) (state_of c.args.part) (state_of c.args.self.now) c.and-self.ensures
+    rejoin_told (view_of g.L.Listener g.L.Conn.Link) (state_of c.args.part) (state_of c.args.self.now)
+    c.and-self.ensures
