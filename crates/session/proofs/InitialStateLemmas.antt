@@ -1,7 +1,7 @@
 -- What a session begins with, what it receives, and a play that it has in hand.
 use Rattle.std.proofs.Common.{◌≡◌, ℕ, List}
-use Rattle.session.proofs.SharedTerms.{AreFilms, Ask, Hears, Played, Request, SessionState, Settings, Setup, Stored}
-use Rattle.session.specs.declared.states.State.TheVariants.{Playing}
+use Rattle.session.proofs.SharedTerms.{AreFilms, Ask, Hears, Played, Playing, Request, SessionState, Settings, Setup}
+use Rattle.session.proofs.SharedTerms.{Stored}
 
 -- what a session begins with: the server's films and settings, and the connection's words
 pub record Beginning : Type 0 where

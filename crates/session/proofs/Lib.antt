@@ -1,14 +1,10 @@
 pub mod SharedTerms
 pub mod InitialStateLemmas
 pub mod StopBoundaryLemmas
-pub mod HaltLemmas
 pub mod ResumedPlayLemmas
-pub mod HaltedRunLemmas
 pub mod StepInvariantLemmas
-pub mod TaskLemmas
 pub mod FailedSlotLemmas
 pub mod RefusalEffectLemmas
-pub mod PlayRequestLemmas
 pub mod RequestEffectLemmas
 pub mod ReplyCodeLemmas
 pub mod RequestUniqueness

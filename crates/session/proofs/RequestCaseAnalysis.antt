@@ -1,34 +1,27 @@
 -- What a session answers to a message: the one analysis of it by cases, above which the laws stand.
-use Rattle.std.proofs.Common.{◌≡◌, ◌≢◌, ℕ, ◌<◌, ◌≤◌, ◌⊎◌, false, List, [], length, Option, Some, None, Result, Ok, Err}
-use Rattle.std.proofs.Common.{◌-◌, true, codes, string_bytes, refl, sym, subst, inl, inr, arith}
+use Rattle.std.proofs.Common.{◌≡◌, ◌≢◌, ℕ, ◌≤◌, false, List, [], length, Option, Some, None, Result, Ok, Err, ◌-◌, true}
+use Rattle.std.proofs.Common.{codes, string_bytes, refl, inl, inr, arith}
 use Rattle.std.proofs.lemmas.Option.{slice_get_within}
-use Rattle.session.proofs.SharedTerms.{AfterHalt, AreSettings, Ask, AsksForSetup, AsksHalt, AsksOfferOr, AsksPlay}
-use Rattle.session.proofs.SharedTerms.{AsksPlayOr, Ends, fault_refusal, first_sequence, Gets, GetsOffer, has_session_in}
-use Rattle.session.proofs.SharedTerms.{HasWait, header_value, IsChosen, IsFilmAt, IsJudged, IsPlanned, IsPlannedRun}
-use Rattle.session.proofs.SharedTerms.{IsReadAs, IsReplied, IsSetUp, IsSetup, IsSetupRead, IsTaken, IsTopic, IsWord}
-use Rattle.session.proofs.SharedTerms.{length_ms, Looks, MayRunOutOfMemory, option_of, Pauses, plain_text, Planned}
-use Rattle.session.proofs.SharedTerms.{play_call, play_front, Plays, prepared_of, public_text, Refusal, refusal_text}
-use Rattle.session.proofs.SharedTerms.{Request, Run, session_text, SessionState, Setup, State, Stored, Takes, Task}
-use Rattle.session.proofs.SharedTerms.{TearsDown, Topic, with_reply}
+use Rattle.session.proofs.SharedTerms.{AfterHalt, AreSettings, Ask, AsksForSetup, AsksHalt, AsksLook, AsksOffer}
+use Rattle.session.proofs.SharedTerms.{AsksOfferOr, AsksPlay, AsksPlayOr, describe_text, Ends, fault_refusal}
+use Rattle.session.proofs.SharedTerms.{first_sequence, Gets, GetsOffer, Halt, has_session_in, HasWait, header_value}
+use Rattle.session.proofs.SharedTerms.{Init, IsChosen, IsFilmAt, IsJudged, IsPlanned, IsPlannedRun, IsReadAs, IsReplied}
+use Rattle.session.proofs.SharedTerms.{IsSetUp, IsSetup, IsSetupRead, IsTaken, IsTeardown, IsTopic, IsWord, length_ms}
+use Rattle.session.proofs.SharedTerms.{Look, MayRunOutOfMemory, Memory, NotNow, Offer, option_of, Parameter, Paused}
+use Rattle.session.proofs.SharedTerms.{Pauses, PausesPlay, plain_text, Planned, Play, play_call, play_front, Playing}
+use Rattle.session.proofs.SharedTerms.{Plays, prepared_of, public_text, Ready, Refusal, refusal_text, Request, Run}
+use Rattle.session.proofs.SharedTerms.{Session, session_text, SessionState, Setup, setup_text, State, Stored, Takes}
+use Rattle.session.proofs.SharedTerms.{Task, TearsDown, Topic, Torn, with_reply}
 use Rattle.rtsp_text.specs.Requests.{IsFault}
 use Rattle.rtsp_text.specs.declared.requests.RequestFault.{RequestFault}
-use Rattle.rtsp_text.specs.declared.requests.RequestFault.TheVariants.{BadLine}
 use Rattle.rtsp_methods.specs.declared.topics.Topic.TheVariants.{Nothing as NoTopic, Booked, Offer as OfferTopic}
 use Rattle.rtsp_methods.specs.declared.topics.Topic.TheVariants.{Unknown}
-use Rattle.rtsp_methods.specs.declared.refusals.Refusal.TheVariants.{Session, State as NotNow, Parameter, Memory}
-use Rattle.rtsp_replies.specs.Replies.{describe_text, setup_text}
 use Rattle.film_streams.specs.declared.films.Asked.{Asked}
 use Rattle.session.specs.declared.commands.Ask.TheVariants.{Reply, Play as AskPlay, Halt as AskHalt, Look as AskLook}
 use Rattle.session.specs.declared.commands.Ask.TheVariants.{Offer as AskOffer}
 use Rattle.session.specs.declared.refusals.Task.TheVariants.{Options as ToOptions, Describe as ToDescribe}
 use Rattle.session.specs.declared.refusals.Task.TheVariants.{Setup as ToSetup, Play as ToPlay, Pause as ToPause}
 use Rattle.session.specs.declared.refusals.Task.TheVariants.{Teardown as ToTeardown, GetParameter as ToGetParameter}
-use Rattle.session.specs.declared.states.AfterHalt.TheVariants.{Paused, Torn}
-use Rattle.session.specs.declared.states.Awaited.TheVariants.{Play, Halt, Look, Offer}
-use Rattle.session.specs.declared.states.State.TheVariants.{Init, Ready, Playing}
-use Rattle.session.specs.Laws.{IsTeardown}
-use Rattle.session.specs.Methods.{AsksLook, AsksOffer, PausesPlay}
-use Rattle.session.specs.SessionStates.{IsReadyIn}
 use Rattle.session.proofs.InitialStateLemmas.{HeardMessage, PlayInHand}
 use Rattle.session.proofs.ResumedPlayLemmas.{of_film}
 
@@ -113,20 +106,13 @@ pub data Answer (h : HeardMessage) : Type 0 where
   SeeksOffer : (offer : ReadyOffer h) (planned : Planned) → IsPlanned h.old offer.setup offer.paused None (Ok planned)
       → AsksOffer h.old offer.taken.request.sequence offer.wait planned h.ask h.new → Answer h
 
-ready_in : {setup : Setup} {paused : Option Run} (old : SessionState) → old.state ≡ Ready setup paused
-    → IsReadyIn old.state setup
-ready_in {setup} old is = subst (λ (s : State). IsReadyIn s setup) (sym is) refl
-
-may_play : (h : HeardMessage) → ReadyPlay h → MayRunOutOfMemory h.old h.message
-may_play h play = grind arith
-
 may_offer : (h : HeardMessage) → ReadyOffer h → MayRunOutOfMemory h.old h.message
 may_offer h offer =
     let t = offer.taken in
     inr (inl (record {
       setup = offer.setup;
       request = t.request;
-      ready = ready_in h.old offer.ready;
+      ready = grind arith;
       offer = record { is_request = t.is_request; method = t.judged.talk.spoken.named; body = offer.body };
     }))
 
@@ -146,10 +132,10 @@ starts_play h play (Ok planned) is (inl asks) =
     StartsPlay play planned asks (of_film h.old.films play.setup.film is.0
     (λ s. IsPlannedRun h.old s play.setup play.paused range planned) is.1.at is.1 asks.stored asks.at)
 starts_play h play (Ok planned) is (inr refused) =
-    Replies (ToDeclined play.taken.request Memory play.taken.is_request (NoMemory refl (may_play h play))) refused
+    Replies (ToDeclined play.taken.request Memory play.taken.is_request (NoMemory refl (grind arith))) refused
 starts_play h play (Err refusal) is refused =
     Replies (ToDeclined play.taken.request refusal play.taken.is_request
-    (NoPlan play.setup play.paused _ is (may_play h play))) refused
+    (NoPlan play.setup play.paused _ is (grind arith))) refused
 
 plays : (h : HeardMessage) (asked : Asked) (taken : TakenTask h (ToPlay asked)) (state : State) → h.old.state ≡ state
     → Plays state h.old taken.request asked.authority.now h.ask h.new → Answer h
@@ -192,24 +178,12 @@ gets_offer h taken body (Ready setup paused) same (inr offers) =
     offers.offers.planned offers.offers.is_planned offers.offers.asks
 gets_offer h taken body _ same is = Replies (ToDeclined taken.request NotNow taken.is_request (NotInPlaying refl)) is
 
-looks : (h : HeardMessage) (taken : TakenTask h ToGetParameter) → IsWord (codes "x-Booked") taken.request.body.now
-    → Looks h.old taken.request.sequence h.ask h.new → Answer h
-looks h taken body (inl look) = TakesLook taken look
-looks h taken body (inr short) =
-    Replies (ToDeclined taken.request Memory taken.is_request (NoMemory refl (inr (inr (record {
-      look = record {
-        request = taken.request;
-        is_request = taken.is_request;
-        method = taken.judged.talk.spoken.named;
-        body = body;
-      };
-      none = short.later;
-    }))))) short.refused
-
 gets : (h : HeardMessage) (taken : TakenTask h ToGetParameter) (topic : Topic) → IsTopic taken.request.body.now topic
     → Gets h.old taken.request topic h.ask h.new → Answer h
 gets h taken NoTopic about is = Replies (ToEmpty taken) is
-gets h taken Booked about is = looks h taken about is
+gets h taken Booked about (inl look) = TakesLook taken look
+gets h taken Booked about (inr short) =
+    Replies (ToDeclined taken.request Memory taken.is_request (NoMemory refl (inr (inr (search arith))))) short.refused
 gets h taken OfferTopic about is = gets_offer h taken about h.old.state refl is
 gets h taken Unknown about is = Replies (ToDeclined taken.request Parameter taken.is_request (NoParameter refl)) is
 
@@ -224,8 +198,7 @@ does h ToTeardown taken is = tears h taken h.old.state refl is
 does h ToGetParameter taken is = gets h taken is.topic is.is_topic is.gets
 
 takes : (h : HeardMessage) (request : Request) (judgement : Result Task Refusal) → IsReadAs h.message request
-    → IsJudged h.old.films h.old.id h.old.state request judgement → Takes h.old request judgement h.ask h.new
-    → Answer h
+    → IsJudged h.old.films h.old.id h.old.state request judgement → Takes h.old request judgement h.ask h.new → Answer h
 takes h request (Ok task) read judged is =
     does h task (record { request = request; is_request = read; judged = judged }) is
 takes h request (Err refusal) read judged is = Replies (ToRefused request refusal read judged) is
@@ -247,16 +220,6 @@ asked_by (StopsPlay taken hand is) = AskHalt is.keep
 asked_by {h} (TakesLook taken look) = AskLook h.old.heard
 asked_by (SeeksOffer offer planned is asks) = AskOffer planned.plan asks.offers
 asked_by _ = Reply
-
-pub asks_as : {h : HeardMessage} (answer : Answer h) → h.ask ≡ asked_by answer
-asks_as (Replies reply is) = is.0
-asks_as (SetsUp film taken setup asks is) = is.0
-asks_as (StartsPlay play planned asks planned_is) = asks.command
-asks_as (HaltsPlay taken hand is) = is.asks.command
-asks_as (StopsPlay taken hand is) = is.command
-asks_as (EndsSession taken is) = is.0
-asks_as (TakesLook taken look) = look.command
-asks_as (SeeksOffer offer planned is asks) = asks.command
 
 -- a play that is halted: no more of it becomes due than what is kept
 abbrev pub halting : {old : SessionState} → PlayInHand old → ℕ → AfterHalt → ℕ → SessionState
@@ -286,35 +249,26 @@ made_by {h} (TakesLook taken look) =
     record h.old { looks_left = h.old.looks_left - 1; awaited = Look taken.request.sequence }
 made_by {h} (SeeksOffer offer planned is asks) = record h.old { awaited = Offer offer.taken.request.sequence }
 
-made_as : {h : HeardMessage} (answer : Answer h) → h.new ≡ made_by answer
-made_as (Replies reply is) = is.1
-made_as (SetsUp film taken setup asks is) = is.1
-made_as (StartsPlay play planned asks planned_is) = asks.state
-made_as (HaltsPlay taken hand is) = is.asks.state
-made_as (StopsPlay taken hand is) = is.state
-made_as (EndsSession taken is) = is.1
-made_as (TakesLook taken look) = look.state
-made_as (SeeksOffer offer planned is asks) = asks.state
+answer_is : {h : HeardMessage} (answer : Answer h) → (h.ask ≡ asked_by answer) × (h.new ≡ made_by answer)
+answer_is (Replies reply is) = is
+answer_is (SetsUp film taken setup asks is) = is
+answer_is (StartsPlay play planned asks planned_is) = (asks.command, asks.state)
+answer_is (HaltsPlay taken hand is) = (is.asks.command, is.asks.state)
+answer_is (StopsPlay taken hand is) = (is.command, is.state)
+answer_is (EndsSession taken is) = is
+answer_is (TakesLook taken look) = (look.command, look.state)
+answer_is (SeeksOffer offer planned is asks) = (asks.command, asks.state)
+
+pub asks_as : {h : HeardMessage} (answer : Answer h) → h.ask ≡ asked_by answer
+asks_as answer = (answer_is answer).0
 
 -- what is true for what an answer asks for and leaves, is true for the message
 pub by_answer : {h : HeardMessage} (P : Ask → SessionState → Type 0) (answer : Answer h)
     → P (asked_by answer) (made_by answer) → P h.ask h.new
-by_answer {h} P answer is = grind (arith, asks_as answer, made_as answer)
-
-pub is_memory : (refusal : Refusal) → (refusal ≡ Memory) ⊎ (refusal ≢ Memory)
-is_memory refusal = grind arith
+by_answer {h} P answer is = grind (arith, answer_is answer)
 
 pub fault_refuses : (fault : RequestFault) → fault_refusal fault ≢ Memory
 fault_refuses fault = grind arith
-
--- what a SETUP settles is in its ranges
-record IsIn (least most n : ℕ) : Type 0 where
-  above : least ≤ n
-  below : n ≤ most
-
-chosen : {own least most n : ℕ} (value : Option (List ℕ)) → IsChosen value own least most n → least ≤ own
-    → own ≤ most → IsIn least most n
-chosen value given given' given'' = grind arith
 
 init_of : (state : State) → has_session_in state ≡ false → state ≡ Init
 init_of state given = grind arith
@@ -326,6 +280,10 @@ is_teardown taken = grind arith
 pub settled_init : {h : HeardMessage} {film : ℕ} → TakenTask h (ToSetup film) → h.old.state ≡ Init
 settled_init {h} taken = init_of h.old.state taken.judged.state
 
+chosen : {own least most n : ℕ} (value : Option (List ℕ)) → IsChosen value own least most n → least ≤ own
+    → own ≤ most → (least ≤ n) × (n ≤ most)
+chosen value given given' given'' = grind arith
+
 pub settled_ranges : {h : HeardMessage} {film : ℕ} {setup : Setup} (taken : TakenTask h (ToSetup film))
     → AsksForSetup h.old.settings taken.request.head.now film setup → AreSettings h.old.settings
     → IsSetup (length h.old.films) setup
@@ -333,13 +291,7 @@ settled_ranges {h} {film} taken asks good =
     let named = taken.judged.film.1.named.film in
     let buffer = chosen _ asks.buffer good.some_buffer good.most_buffer in
     let delay = chosen _ asks.delay (omega arith) good.most_delay in
-    record {
-      film = subst (λ n. n < length h.old.films) (sym asks.film_is)
-          (slice_get_within h.old.films film named.stored named.at);
-      some_buffer = buffer.above;
-      most_buffer = buffer.below;
-      most_delay = delay.below;
-    }
+    search (arith, slice_get_within)
 
 -- memory may run out for a request that a method refuses for it
 pub may_lack : {h : HeardMessage} {request : Request} {refusal : Refusal} → OwnCause h request refusal

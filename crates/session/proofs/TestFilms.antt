@@ -1,6 +1,5 @@
 -- A server of one film.
 use Rattle.std.proofs.Common.{◌≡◌, true, [], ◌∷◌, string_bytes, arith}
-use Rattle.std.proofs.lemmas.List.Elements.{All-cons, All-nil}
 use Rattle.vod_base.specs.Names.{good_name}
 use Rattle.film_frames.specs.declared.stored_films.Stored.{Stored}
 use Rattle.film_streams.specs.SettingRanges.{AreFilms}

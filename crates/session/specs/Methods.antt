@@ -76,17 +76,15 @@ IsSetUp old sequence (Ok setup) ask new =
     })
 IsSetUp old sequence (Err refusal) ask new = IsRefused old (Some sequence) refusal [] ask new
 
-pub record SetsUp (old : SessionState) (request : Request) (film : ℕ) (ask : Ask) (new :
-    SessionState)
-    : Type 0 where
+pub record SetsUp (old : SessionState) (request : Request) (film : ℕ) (ask : Ask)
+    (new : SessionState) : Type 0 where
   pub read : Result Setup Refusal
   pub is_read : IsSetupRead old.settings request.head.now film read
   pub done : IsSetUp old request.sequence read ask new
 
 -- a play is halted at the first boundary that it can reach; the reply waits for that
-pub record AsksHalt (old : SessionState) (sequence : ℕ) (setup : Setup) (play : Played) (next :
-    AfterHalt)
-    (ask : Ask) (new : SessionState) : Type 0 where
+pub record AsksHalt (old : SessionState) (sequence : ℕ) (setup : Setup) (play : Played)
+    (next : AfterHalt) (ask : Ask) (new : SessionState) : Type 0 where
   pub keep : ℕ
   pub keep_is : keep ≡ next_boundary play.pacer
   pub command : ask ≡ AskHalt keep
@@ -194,9 +192,8 @@ Plays (Ready setup paused) old request authority ask new =
 Plays _ old request authority ask new = IsReplied old (session_text request.sequence old.id) ask new
 
 -- PAUSE: what is kept of the play, and what that leaves of its run
-pub record PausesPlay (old : SessionState) (sequence : ℕ) (setup : Setup) (play : Played) (ask :
-    Ask)
-    (new : SessionState) : Type 0 where
+pub record PausesPlay (old : SessionState) (sequence : ℕ) (setup : Setup) (play : Played)
+    (ask : Ask) (new : SessionState) : Type 0 where
   pub stored : Stored
   pub at : IsFilmAt old.films setup.film stored
   pub last : Option ℕ
@@ -235,9 +232,8 @@ AsksOfferOr old sequence wait (Ok planned) ask new =
 AsksOfferOr old sequence wait (Err refusal) ask new =
     IsRefused old (Some sequence) refusal [] ask new
 
-pub record OffersReady (old : SessionState) (sequence wait : ℕ) (setup : Setup) (paused : Option
-    Run)
-    (ask : Ask) (new : SessionState) : Type 0 where
+pub record OffersReady (old : SessionState) (sequence wait : ℕ) (setup : Setup)
+    (paused : Option Run) (ask : Ask) (new : SessionState) : Type 0 where
   pub planned : Result Planned Refusal
   pub is_planned : IsPlanned old setup paused None planned
   pub asks : AsksOfferOr old sequence wait planned ask new

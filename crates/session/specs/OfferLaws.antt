@@ -1,7 +1,7 @@
 -- What is asked of the station for an offer, what the reply gives, and the least buffer that a
 -- refusal names.
-use Rattle.std.specs.Prelude.{ℕ, ◌≡◌, ◌<◌, ◌≤◌, ◌++◌, List, [], ◌∷◌, Option, Some, None}
-use Rattle.std.specs.Prelude.{codes, decimal, flat_map, length, map}
+use Rattle.std.specs.Prelude.{ℕ, ◌≡◌, ◌<◌, ◌≤◌, ◌++◌, List, [], ◌∷◌, Option, Some, None, codes}
+use Rattle.std.specs.Prelude.{decimal, flat_map, length, map}
 use Rattle.vod_base.specs.Numbers.{number_of}
 use Rattle.plan_cert.specs.declared.Segment.{Segment}
 use Rattle.wire_curve.specs.CurveFaults.{IsAccepted}
@@ -37,9 +37,8 @@ pub record IsWaitIn (head : List ℕ) (wait : ℕ) : Type 0 where
 
 -- the station is asked with the plan of a PLAY without a Range, and no start was tried yet; the
 -- state and what was played stay
-pub record IsOfferAsked (old : SessionState) (message : List ℕ) (plan : List Segment) (offers :
-    Offers)
-    (new : SessionState) : Type 0 where
+pub record IsOfferAsked (old : SessionState) (message : List ℕ) (plan : List Segment)
+    (offers : Offers) (new : SessionState) : Type 0 where
   pub request : Request
   pub setup : Setup
   pub paused : Option Run

@@ -57,17 +57,15 @@ new_session_state films settings words = record {
 }
 
 -- a message that is no request
-pub record AnswersBadRequest (old : SessionState) (message : List ℕ) (ask : Ask) (new :
-    SessionState)
-    : Type 0 where
+pub record AnswersBadRequest (old : SessionState) (message : List ℕ) (ask : Ask)
+    (new : SessionState) : Type 0 where
   pub fault : RequestFault
   pub is_fault : IsFault message fault
   pub refused : IsRefused old (first_sequence message) (fault_refusal fault) [] ask new
 
 -- a request
-pub record AnswersGoodRequest (old : SessionState) (message : List ℕ) (ask : Ask) (new :
-    SessionState)
-    : Type 0 where
+pub record AnswersGoodRequest (old : SessionState) (message : List ℕ) (ask : Ask)
+    (new : SessionState) : Type 0 where
   pub request : Request
   pub is_request : IsReadAs message request
   pub hears : HearsRequest old request ask new

@@ -14,9 +14,9 @@ use Rattle.film_streams.specs.declared.setups.Setup.{Setup}
 use Rattle.film_streams.specs.declared.stream_numbers.StreamSource.{StreamSource}
 use Rattle.session.specs.declared.play_requests.PlayRequest.{PlayRequest}
 use Rattle.film_streams.specs.Films.{IsFilmAt, OfFilm}
-use Rattle.session.specs.RunRequests.{IsAskedRun, IsNoRange, IsRunOf, counts_for}
+use Rattle.session.specs.RunRequests.{IsAskedRun, IsNoRange, IsRunOf, counts_for, playback_of}
+use Rattle.session.specs.RunRequests.{run_of}
 use Rattle.rtsp_methods.specs.Refusals.{curve_refusal}
-use Rattle.session.specs.RunRequests.{playback_of, run_of}
 use Rattle.session.specs.SessionStates.{SessionState}
 
 -- a paused run can be sent on
@@ -42,9 +42,8 @@ pub record IsPlannedRun (old : SessionState) (stored : Stored) (setup : Setup) (
       (playback_of stored.film old.settings setup) planned.run planned.plan
 
 -- the Range has no meaning for the film
-pub record HasNoRun (old : SessionState) (setup : Setup) (paused : Option Run) (range : Option (List
-    ℕ))
-    (refusal : Refusal) : Type 0 where
+pub record HasNoRun (old : SessionState) (setup : Setup) (paused : Option Run)
+    (range : Option (List ℕ)) (refusal : Refusal) : Type 0 where
   pub stored : Stored
   pub at : IsFilmAt old.films setup.film stored
   pub none : IsNoRange stored.film paused range
@@ -63,8 +62,7 @@ pub record HasNoPlan (old : SessionState) (setup : Setup) (paused : Option Run)
   pub refusal_is : refusal ≡ curve_refusal refused
 
 abbrev pub IsPlanned : SessionState → Setup → Option Run → Option (List ℕ) → Result Planned Refusal
-    →
-    Type 0
+    → Type 0
 IsPlanned old setup paused range (Ok planned) = (stored : Stored)
     × IsPlannedRun old stored setup paused range planned
 IsPlanned old setup paused range (Err refusal) = HasNoRun old setup paused range refusal

@@ -1,6 +1,4 @@
 use Rattle.std.proofs.Common.{arith}
-use Rattle.std.proofs.Common.{◌≡◌, ℕ, true, subst}
-use Rattle.session.specs.RefusalOrder.{FitsFilm}
 use Rattle.session.proofs.refusals.own_film.Goals as goal
 
 pub returns-in_err-asked-clause-film : goal.returns-in_err-asked-clause-film
@@ -9,7 +7,4 @@ returns-in_err-asked-clause-film c =
 
 pub returns-else-is_own-clause-film : goal.returns-else-is_own-clause-film
 returns-else-is_own-clause-film c = λ has.
-    let same : has.1.0 ≡ c.in_ok-asked.asked.film = c.in_ok-asked.ensures.one has.0 has.1.0 has.1.1.named in
-    let fits : FitsFilm c.args.method c.args.state.now c.in_ok-asked.asked.film = grind arith in
-    let yes : c.is_own.result ≡ true = c.is_own.ensures.1 fits in
-    cc
+    let same = c.in_ok-asked.ensures.one has.0 has.1.0 has.1.1.named in grind arith

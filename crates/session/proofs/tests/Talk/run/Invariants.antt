@@ -1,4 +1,4 @@
-use Rattle.session.specs.SessionStates.{AwaitsNoAnswer}
+use Rattle.session.proofs.SharedTerms.{AwaitsNoAnswer}
 use Rattle.session.proofs.tests.Talk.run.Given as goal
 
 abbrev pub invariant-loop-row : goal.invariant-loop-row
