@@ -1,22 +1,19 @@
 -- Each reply of a session is a complete message.
-use Rattle.std.proofs.Common.{◌≡◌, ℕ, ◌-◌, ◌^◌, ◌<◌, ◌≤◌, true, List}
-use Rattle.std.proofs.Common.{[], codes, length, string_bytes, sum, drop}
-use Rattle.std.proofs.Common.{Option, Some, None, Ok, Err, refl, sym, ap, subst, ◌∙◌, arith, inl, inr}
+use Rattle.std.proofs.Common.{◌≡◌, ℕ, ◌-◌, ◌^◌, ◌<◌, ◌≤◌, List, [], codes, length, string_bytes, sum, drop, Option}
+use Rattle.std.proofs.Common.{Some, None, Ok, Err, refl, sym, ap, subst, ◌∙◌, arith, inl, inr}
 use Rattle.std.specs.Prelude.{IfSome}
 use Rattle.std.proofs.lemmas.List.{length-drop, length-take}
 use Rattle.std.proofs.lemmas.List.Sums.{sum_by-take-drop, sum_by-take-le}
 use Rattle.std.proofs.lemmas.Option.{get_or_from_slice_get, slice_get_within}
-use Rattle.session.proofs.SharedTerms.{AreChannelsOf, AreFilms, Channels, curve_refusal, CurveRefused}
-use Rattle.session.proofs.SharedTerms.{fault_refusal, Film, first_of, first_sequence, good_name, header_value, Hears}
-use Rattle.session.proofs.SharedTerms.{IsFilmAt, IsJudged, IsPlanned, IsReadAs, length_ms, look_body}
-use Rattle.session.proofs.SharedTerms.{new_session_state, offer_body, option_of, playback_of, Refusal}
-use Rattle.session.proofs.SharedTerms.{Request, rest_sizes, Run, run_of, session_text, SessionState, Settings, Setup}
-use Rattle.session.proofs.SharedTerms.{Stored, stored_sizes, Timing, timing_of}
+use Rattle.session.proofs.SharedTerms.{AreChannelsOf, AreFilms, Channels, curve_refusal, CurveRefused, fault_refusal}
+use Rattle.session.proofs.SharedTerms.{Film, first_sequence, header_value, Hears, IsJudged, IsPlanned, IsReadAs}
+use Rattle.session.proofs.SharedTerms.{length_ms, look_body, new_session_state, offer_body, option_of, playback_of}
+use Rattle.session.proofs.SharedTerms.{Refusal, Request, rest_sizes, Run, run_of, SessionState, Settings, Setup, Stored}
+use Rattle.session.proofs.SharedTerms.{stored_sizes, Timing, timing_of}
 use Rattle.session.specs.declared.commands.Ask.{Ask}
 use Rattle.session.specs.declared.refusals.Task.{Task}
 use Rattle.vod_base.specs.declared.limits.TheConstants.{MAX_BYTES}
 use Rattle.vod_base.specs.Blanks.{without_blanks}
-use Rattle.vod_base.specs.Numbers.{number_of}
 use Rattle.vod_base.proofs.TextLemmas.{trimmed_is}
 use Rattle.wire_curve.specs.FilmCurves.{bytes_used_in}
 use Rattle.wire_curve.specs.declared.film.CurveRefused.TheVariants.{Fault}
@@ -35,7 +32,7 @@ use Rattle.film_streams.specs.Films.{milliseconds_at}
 use Rattle.film_streams.specs.StreamNumbers.{timestamp_at}
 use Rattle.rtsp_methods.specs.RequiredOptions.{or_nothing}
 use Rattle.session.specs.Methods.{first_number}
-use Rattle.session_laws.specs.CompleteReplies.{AnswersPlay, HasValidIds, LeavesRoom, RepliesAreComplete}
+use Rattle.session_laws.specs.CompleteReplies.{HasValidIds, LeavesRoom, RepliesAreComplete}
 use Rattle.rtsp_replies.specs.Messages.{IsMessage}
 use Rattle.session.proofs.RequestUniqueness.{first_sequence_is}
 use Rattle.rtsp_replies.proofs.ReplyTextLemmas.{IsPrinted, bare_between, printed-w64}
@@ -46,17 +43,11 @@ use Rattle.session.proofs.RequestCaseAnalysis.{ToFault, ToRefused, ToDeclined, T
 use Rattle.session.proofs.RequestCaseAnalysis.{ToEmpty, OwnCause, NoSetup, NoPlan, NoMemory as LacksMemory, NoSession}
 use Rattle.session.proofs.RequestCaseAnalysis.{NotInPlaying, NoParameter, TakenTask, answer_to, reply_of, asked_by}
 use Rattle.session.proofs.RequestCaseAnalysis.{by_answer, made_by}
-use Rattle.session_laws.proofs.PlayInReadyLemmas.{PlayStarted}
 use Rattle.session_laws.proofs.ReplyContentLemmas.{authority_of}
 use Rattle.rtsp_replies.proofs.ReplyMessages.{public_whole, session_whole, plain_whole, parameters_whole, AreSmall}
 use Rattle.rtsp_replies.proofs.ReplyMessages.{setup_whole, name_printed, describe_whole, IsRepeated, repeats_nothing}
 use Rattle.rtsp_replies.proofs.ReplyMessages.{HasFitLeast, refusal_whole, overflow_whole, full_whole, PlayParts}
 use Rattle.rtsp_replies.proofs.ReplyMessages.{play_whole, look_short, offer_short}
-
-good_at : (films : List Stored) (number : ℕ) (stored : Stored) → AreFilms films → IsFilmAt films number stored
-    → good_name (string_bytes stored.name) ≡ true
-good_at films number stored are at =
-    grind (arith, get_or_from_slice_get films number stored stored at, slice_get_within films number stored at)
 
 time_fits : (film : Film) (unit : ℕ) → unit ≤ 4194304 → milliseconds_at film unit < 2 ^ 64
 time_fits film unit within = grind arith
@@ -67,36 +58,21 @@ header_repeated : (head name : List ℕ) (found : Option (List ℕ)) → header_
 header_repeated head name None is short = repeats_nothing
 header_repeated head name (Some value) is short =
     let first = (first_tells name (header_lines head)).first value is in
-    let inside = value_inside head name value first in
-    let IsBare : List ℕ → Type 0 = λ v. without_blanks v ≡ v in
+    let own = value_inside head name value first in
     let trimmed = trimmed_is first.field.after in
-    let bare : IsBare (without_blanks first.field.after) =
-    bare_between (without_blanks first.field.after) trimmed.begins trimmed.ends in
-    record {
-      short = omega (arith, inside.short, short);
-      one_line = inside.one_line;
-      bare = subst IsBare (sym first.field.value_is) bare;
-    }
-
-first_repeated : (a b : Option (List ℕ)) → IsRepeated (or_nothing a) → IsRepeated (or_nothing b)
-    → IsRepeated (or_nothing (first_of a b))
-first_repeated a b given given' = grind arith
+    let bare = bare_between (without_blanks first.field.after) trimmed.begins trimmed.ends in
+    record { short = omega (arith, own.short, short); one_line = own.one_line; bare = rw first.field.value_is bare }
 
 option_repeated : (head : List ℕ) → length head ≤ 15872 → IsRepeated (option_of head)
 option_repeated head short =
-    first_repeated (header_value head (codes "Require")) (header_value head (codes "Proxy-Require"))
-    (header_repeated head (codes "Require") (header_value head (codes "Require")) refl short)
-    (header_repeated head (codes "Proxy-Require") (header_value head (codes "Proxy-Require")) refl short)
-
--- the number of a request
-number_small : (text : List ℕ) (n : ℕ) → number_of text ≡ Some n → n < 2 ^ 64
-number_small text n is = grind arith
+    let repeated = λ (name : List ℕ). header_repeated head name (header_value head name) refl short in
+    grind (arith, repeated (codes "Require"), repeated (codes "Proxy-Require"))
 
 sequence_fits : (message : List ℕ) (found : Option ℕ) → first_sequence message ≡ found → IfSome found (λ n. n < 2 ^ 64)
 sequence_fits message None is = tt
 sequence_fits message (Some n) is =
     let first = (number_tells (codes "CSeq") (header_lines message)).first n is in
-    number_small first.value n first.number_is
+    (grind arith)
 
 -- why a run has no plan: the least buffer is of the film's own bytes
 used_fits : (sizes : List ℕ) (timing : Timing) (t : ℕ) → bytes_used_in sizes timing t ≤ sum sizes
@@ -117,14 +93,8 @@ curves_fit : (stored : Stored) (run : Run) (timing : Timing) (refused : CurveRef
 curves_fit stored run timing (Fault (BufferTooSmall slot used own)) none least same =
     let is : own ≡ least = cc in
     let reached = none.2.reached in
-    omega (
-      arith,
-      is,
-      reached.2,
-      used_fits (rest_sizes
-          (stored_sizes stored) run) timing reached.0,
-      rest_fits stored run,
-    )
+    let used = used_fits (rest_sizes (stored_sizes stored) run) timing reached.0 in
+    omega (arith, is, reached.2, used, rest_fits stored run)
 curves_fit stored run timing _ none least same = absurd (let no : ⊥ = cc in no)
 
 planned_fits : (old : SessionState) (setup : Setup) (paused : Option Run) (range : Option (List ℕ)) (refusal : Refusal)
@@ -135,64 +105,10 @@ planned_fits old setup paused range refusal (inr no_plan) least same =
     (timing_of (playback_of no_plan.stored.film old.settings setup) (run_of no_plan.wanted))
     no_plan.refused no_plan.no_curves least (sym no_plan.refusal_is ∙ same)
 
-fault_fits : (fault : RequestFault) → HasFitLeast (fault_refusal fault)
-fault_fits fault = grind arith
-
 setup_small : (value : Option (List ℕ)) (channels : Channels) → AreChannelsOf value channels → AreSmall channels
 setup_small value channels given = grind arith
 
--- a request whose message leaves room for what a reply repeats
-record SizedRequest (message : List ℕ) (request : Request) : Type 0 where
-  pub read : IsReadAs message request
-  pub number : request.sequence < 2 ^ 64
-  pub short : length request.head.now ≤ 15872
-
-sized : {message : List ℕ} → LeavesRoom message → (request : Request) → IsReadAs message request
-    → SizedRequest message request
-sized {message} room request read = record {
-  read = read;
-  number = sequence_fits message (Some request.sequence)
-      (first_sequence_is message request.sequence read.sequence_is);
-  short = room (length request.head.now) read.split.is_head;
-}
-
--- the authority of a request's URL
-authority_printed : {message authority : List ℕ} {name : Option (List ℕ)} (request : Request)
-    → SizedRequest message request → IsRead request.url.now authority name → IsPrinted 15872 authority
-authority_printed {message} {authority} {name} request r read =
-    let url = request.url.now in
-    let within : length url < length request.head.now =
-    read_url {E = RequestFault} message (record {
-      head = λ (r : Request). r.head.now;
-      body = λ (r : Request). r.body.now;
-      method = λ (r : Request). r.method.now;
-      url = λ (r : Request). r.url.now;
-      sequence = λ (r : Request). r.sequence;
-    }) (Ok request) is in
-    record {
-      short = omega (
-        arith,
-        ap length read.authority_is,
-        length-take (read.path - 7) (drop 7 url),
-        length-drop 7 url,
-        within,
-        short,
-      );
-      prints = (authority_of url authority name read).prints;
-    }
-  where
-    open r use {read as is, short}
-
--- a session that names its films and itself well, where a message leaves room
-record IsNamedWell (h : HeardMessage) : Type 0 where
-  pub named : HasValidIds h.old
-  pub room : LeavesRoom h.message
-
-own_id : {h : HeardMessage} → IsNamedWell h → IsPrinted 16 h.old.id
-own_id well = subst (IsPrinted 16) (sym well.named.id_is) (printed-w64 well.named.number)
-
-own_fits : {h : HeardMessage} {request : Request} {refusal : Refusal} → OwnCause h request refusal
-    → HasFitLeast refusal
+own_fits : {h : HeardMessage} {request : Request} {refusal : Refusal} → OwnCause h request refusal → HasFitLeast refusal
 own_fits {h} {request} (NoSetup film is) least same = grind arith
 own_fits {h} {refusal} (NoPlan setup paused range is may) least same =
     planned_fits h.old setup paused range refusal is least same
@@ -201,122 +117,126 @@ own_fits (NoSession is init) least same = absurd (let no : ⊥ = cc in no)
 own_fits (NotInPlaying is) least same = absurd (let no : ⊥ = cc in no)
 own_fits (NoParameter is) least same = absurd (let no : ⊥ = cc in no)
 
-own_whole : (h : HeardMessage) → IsNamedWell h → (reply : OwnReply h) → IsMessage (reply_of h reply)
-own_whole h well (ToFault fault is) =
-    refusal_whole (first_sequence h.message) (fault_refusal fault) []
-    (sequence_fits h.message (first_sequence h.message) refl) repeats_nothing (fault_fits fault)
-own_whole h well (ToRefused request refusal read judged) =
-    let r = sized well.room request read in
-    refusal_whole (Some request.sequence) refusal (option_of request.head.now) r.number
-    (option_repeated request.head.now r.short)
-    (λ least same. absurd (subst (λ n. IsJudged h.old.films h.old.id h.old.state request (Err n)) same judged))
-own_whole h well (ToDeclined request refusal read cause) =
-    refusal_whole (Some request.sequence) refusal [] (sized well.room request read).number repeats_nothing
-    (own_fits cause)
-own_whole h well (ToAsked taken) =
-    public_whole taken.request.sequence (sized well.room taken.request taken.is_request).number
-own_whole h well (ToDescribed asked taken stored at) =
-    let r = sized well.room taken.request taken.is_request in
-    describe_whole taken.request.sequence (length_ms stored.film) r.number
-    (authority_printed taken.request r taken.judged.film.named.read)
-    (name_printed (string_bytes stored.name) (good_at h.old.films asked.film stored well.named.films at))
-    (time_fits stored.film (length stored.film.units.items) (film-few stored.film))
-own_whole h well (ToConfirmed asked taken) =
-    session_whole taken.request.sequence h.old.id (sized well.room taken.request taken.is_request).number (own_id well)
-own_whole h well (ToEmpty taken) =
-    plain_whole taken.request.sequence (sized well.room taken.request taken.is_request).number
+-- a message that leaves room, to a session that names its films and itself well
+module _ (h : HeardMessage) (named : HasValidIds h.old) (room : LeavesRoom h.message) where
+  own_id : IsPrinted 16 h.old.id
+  own_id = rw named.id_is (printed-w64 named.number)
 
--- the reply to a PLAY that the station is asked for
-started_whole : {h : HeardMessage} → IsNamedWell h → (started : PlayStarted h)
-    → AnswersPlay (made_by (StartsPlay started.play started.planned started.asks started.planned_is))
-started_whole {h} well started =
-    let r = sized well.room play.taken.request play.taken.is_request in
-    let sequence = play.taken.request.sequence in
-    let film = asks.stored.film in
-    let run_is = is.goes_on.run_is in
-    let few = is.can_play.sizes_are.few in
-    let last : planned.run.end_unit ≤ 4194304 = let within = run_is.within in omega (arith, within, few) in
-    let first : planned.run.from_unit ≤ 4194304 = let rest = run_is.rest in omega (arith, rest, last) in
-    let parts : PlayParts = record {
-      sequence = sequence;
-      id = h.old.id;
-      from_ms = milliseconds_at film planned.run.from_unit;
-      to_ms = milliseconds_at film planned.run.end_unit;
-      authority = play.asked.authority.now;
-      name = string_bytes asks.stored.name;
-      number = first_number h.old asks.stored play.setup planned;
-      time = timestamp_at film h.old.source planned.run.from_unit;
-      sequence_fits = r.number;
-      id_is = own_id well;
-      from_fits = time_fits film planned.run.from_unit first;
-      to_fits = time_fits film planned.run.end_unit last;
-      under = authority_printed play.taken.request r play.taken.judged.film.named.read;
-      named = name_printed (string_bytes asks.stored.name)
-          (good_at h.old.films play.setup.film asks.stored well.named.films asks.at);
-      number_fits = omega arith;
-      time_fits = omega arith;
-    } in
-    record {
-      admission = λ place start small. play_whole parts (start - h.old.heard) (omega (arith, small));
-      overflow = λ place slot booked asked one two three.
-          overflow_whole sequence (record {
-            slot = slot;
-            booked = booked;
-            asked = asked;
-            slot_fits = one;
-            booked_fits = two;
-            asked_fits = three;
-          }) r.number;
-      full = λ entries live one two. full_whole sequence entries live r.number one two;
-    }
-  where
-    open started use {play, planned, asks, planned_is as is}
+  number : (request : Request) → IsReadAs h.message request → request.sequence < 2 ^ 64
+  number request read =
+      sequence_fits h.message (Some request.sequence) (first_sequence_is h.message request.sequence read.sequence_is)
 
-told_whole : {h : HeardMessage} {task : Task} → IsNamedWell h → (taken : TakenTask h task)
-    → IsMessage (session_text taken.request.sequence h.old.id)
-told_whole {h} well taken =
-    session_whole taken.request.sequence h.old.id (sized well.room taken.request taken.is_request).number (own_id well)
+  taken_number : {task : Task} (taken : TakenTask h task) → taken.request.sequence < 2 ^ 64
+  taken_number taken = number taken.request taken.is_request
 
-answer_whole : {h : HeardMessage} → IsNamedWell h → (answer : Answer h)
-    → RepliesAreComplete (asked_by answer) (made_by answer)
-answer_whole {h} well (RepliesAlone reply is) = own_whole h well reply
-answer_whole {h} well (SettlesSetup film taken setup asks is) =
-    let small = setup_small (header_value taken.request.head.now (codes "Transport"))
-    (record { media = setup.media; control = setup.control }) asks.channels in
-    setup_whole taken.request.sequence h.old.source.ssrc (sized well.room taken.request taken.is_request).number small
-    (own_id well)
-answer_whole well (StartsPlay play planned asks planned_is) =
-    started_whole well (record { play = play; planned = planned; asks = asks; planned_is = planned_is })
-answer_whole well (HaltsPlay taken hand is) = told_whole well taken
-answer_whole well (StopsPlay taken hand is) = told_whole well taken
-answer_whole well (EndsSession taken is) = told_whole well taken
-answer_whole well (TakesLook taken look) =
-    let n = taken.request.sequence in
-    let number = (sized well.room taken.request taken.is_request).number in
-    record {
-      look = λ place now at booked one two three.
-          parameters_whole n (look_body now at booked) number (look_short now at booked one two three);
-      full = λ entries live one two. full_whole n entries live number one two;
-    }
-answer_whole well (SeeksOffer offer planned is asks) =
-    let t = offer.taken in
-    λ note are. parameters_whole t.request.sequence (offer_body note.offers.start note.offers.tried)
-    (sized well.room t.request t.is_request).number (offer_short note.offers are)
+  -- the authority of a request's URL
+  authority_printed : {authority : List ℕ} {name : Option (List ℕ)} (request : Request) → IsReadAs h.message request
+      → IsRead request.url.now authority name → IsPrinted 15872 authority
+  authority_printed {authority} {name} request is read =
+      let url = request.url.now in
+      let short = room (length request.head.now) is.split.is_head in
+      let within : length url < length request.head.now = read_url {E = RequestFault} h.message (record {
+        head = λ (r : Request). r.head.now;
+        body = λ (r : Request). r.body.now;
+        method = λ (r : Request). r.method.now;
+        url = λ (r : Request). r.url.now;
+        sequence = λ (r : Request). r.sequence;
+      }) (Ok request) is in
+      let cut = length-take (read.path - 7) (drop 7 url) in
+      record {
+        short = omega (arith, ap length read.authority_is, cut, length-drop 7 url, within, short);
+        prints = (authority_of url authority name read).prints;
+      }
+
+  own_whole : (reply : OwnReply h) → IsMessage (reply_of h reply)
+  own_whole (ToFault fault is) =
+      refusal_whole (first_sequence h.message) (fault_refusal fault) []
+      (sequence_fits h.message (first_sequence h.message) refl) repeats_nothing (grind arith)
+  own_whole (ToRefused request refusal read judged) =
+      refusal_whole (Some request.sequence) refusal (option_of request.head.now) (number request read)
+      (option_repeated request.head.now (room (length request.head.now) read.split.is_head))
+      (λ least same. absurd (subst (λ n. IsJudged h.old.films h.old.id h.old.state request (Err n)) same judged))
+  own_whole (ToDeclined request refusal read cause) =
+      refusal_whole (Some request.sequence) refusal [] (number request read) repeats_nothing (own_fits cause)
+  own_whole (ToAsked taken) = public_whole taken.request.sequence (taken_number taken)
+  own_whole (ToDescribed asked taken stored at) =
+      describe_whole taken.request.sequence (length_ms stored.film) (taken_number taken)
+      (authority_printed taken.request taken.is_request taken.judged.film.named.read)
+      (name_printed (string_bytes stored.name) (grind (arith, get_or_from_slice_get, slice_get_within)))
+      (time_fits stored.film (length stored.film.units.items) (film-few stored.film))
+  own_whole (ToConfirmed asked taken) = session_whole taken.request.sequence h.old.id (taken_number taken) own_id
+  own_whole (ToEmpty taken) = plain_whole taken.request.sequence (taken_number taken)
+
+  answer_whole : (answer : Answer h) → RepliesAreComplete (asked_by answer) (made_by answer)
+  answer_whole (RepliesAlone reply is) = own_whole reply
+  answer_whole (SettlesSetup film taken setup asks is) =
+      setup_whole taken.request.sequence h.old.source.ssrc (taken_number taken)
+      (setup_small (header_value taken.request.head.now (codes "Transport"))
+      (record { media = setup.media; control = setup.control }) asks.channels) own_id
+  answer_whole (StartsPlay play planned asks is) =
+      let taken = play.taken in
+      let film = asks.stored.film in
+      let run_is = is.goes_on.run_is in
+      let few = is.can_play.sizes_are.few in
+      let last : planned.run.end_unit ≤ 4194304 = let within = run_is.within in omega (arith, within, few) in
+      let first : planned.run.from_unit ≤ 4194304 = let rest = run_is.rest in omega (arith, rest, last) in
+      let parts : PlayParts = record {
+        sequence = taken.request.sequence;
+        id = h.old.id;
+        from_ms = milliseconds_at film planned.run.from_unit;
+        to_ms = milliseconds_at film planned.run.end_unit;
+        authority = play.asked.authority.now;
+        name = string_bytes asks.stored.name;
+        number = first_number h.old asks.stored play.setup planned;
+        time = timestamp_at film h.old.source planned.run.from_unit;
+        sequence_fits = taken_number taken;
+        id_is = own_id;
+        from_fits = time_fits film planned.run.from_unit first;
+        to_fits = time_fits film planned.run.end_unit last;
+        under = authority_printed taken.request taken.is_request taken.judged.film.named.read;
+        named = name_printed (string_bytes asks.stored.name)
+            (grind (arith, get_or_from_slice_get, slice_get_within));
+        number_fits = omega arith;
+        time_fits = omega arith;
+      } in
+      record {
+        admission = λ place start small. play_whole parts (start - h.old.heard) (omega (arith, small));
+        overflow = λ place slot booked asked one two three.
+            overflow_whole taken.request.sequence (record {
+              slot = slot;
+              booked = booked;
+              asked = asked;
+              slot_fits = one;
+              booked_fits = two;
+              asked_fits = three;
+            }) (taken_number taken);
+        full = λ entries live one two. full_whole taken.request.sequence entries live (taken_number taken) one two;
+      }
+  answer_whole (HaltsPlay taken hand is) = session_whole taken.request.sequence h.old.id (taken_number taken) own_id
+  answer_whole (StopsPlay taken hand is) = session_whole taken.request.sequence h.old.id (taken_number taken) own_id
+  answer_whole (EndsSession taken is) = session_whole taken.request.sequence h.old.id (taken_number taken) own_id
+  answer_whole (TakesLook taken look) =
+      let n = taken.request.sequence in
+      record {
+        look = λ place now at booked one two three. parameters_whole n (look_body now at booked) (taken_number taken)
+            (look_short now at booked one two three);
+        full = λ entries live one two. full_whole n entries live (taken_number taken) one two;
+      }
+  answer_whole (SeeksOffer offer planned is asks) = λ note are.
+      parameters_whole offer.taken.request.sequence (offer_body note.offers.start note.offers.tried)
+      (taken_number offer.taken) (offer_short note.offers are)
 
 pub replies_whole : (old : SessionState) (message : List ℕ) (ask : Ask) (new : SessionState) → HasValidIds old
     → LeavesRoom message → Hears old message ask new → RepliesAreComplete ask new
 replies_whole old message ask new named room hears =
     let answer = answer_to (heard_by hears) in
-    by_answer RepliesAreComplete answer (answer_whole (record { named = named; room = room }) answer)
+    by_answer RepliesAreComplete answer (answer_whole (heard_by hears) named room answer)
 
 -- what a session keeps from its beginning
 pub begins_named : (films : List Stored) (settings : Settings) (words : List ℕ) → AreFilms films
     → HasValidIds (new_session_state films settings words)
 begins_named films settings words are = grind arith
 
-answer_named : {h : HeardMessage} → HasValidIds h.old → (answer : Answer h) → HasValidIds (made_by answer)
-answer_named given answer = grind arith
-
 pub keeps_named : (old new : SessionState) (message : List ℕ) (ask : Ask) → Hears old message ask new → HasValidIds old
     → HasValidIds new
-keeps_named old new message ask hears named = grind (arith, answer_to (heard_by hears), by_answer, answer_named)
+keeps_named old new message ask hears named = grind (arith, answer_to (heard_by hears), by_answer)

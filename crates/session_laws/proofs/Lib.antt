@@ -1,21 +1,17 @@
 mod RtpNumberLemmas
-mod StateMachineLemmas
 pub mod RunLemmas
 mod RequestReadings
 mod PlanUniqueness
 pub mod AnswerUniqueness
 mod ReplyContentLemmas
 pub mod SlotCountLemmas
-mod PlayNoteLemmas
 mod OfferLemmas
-mod LookRoomLemmas
 pub mod PauseTeardownLemmas
 pub mod PlayInReadyLemmas
 pub mod SetupLemmas
 pub mod WholeFilmLemmas
 pub mod CompleteReplyLemmas
 mod RefusalLawLemmas
-mod ReplyNumberLemmas
 mod MethodLemmas
 mod CauseLemmas
 pub mod ClientReplyLemmas

@@ -1,22 +1,22 @@
-use Rattle.std.proofs.lemmas.Grind.{common_steps}
 -- What an offer asks for and reports, and the least buffer.
-use Rattle.std.proofs.Common.{◌≡◌, ℕ, List, [], ◌∷◌, ◌++◌, map, flat_map, codes, Option}
-use Rattle.std.proofs.Common.{refl, sym, ap, subst, ◌∙◌, arith}
+use Rattle.std.proofs.lemmas.Grind.{common_steps}
+use Rattle.std.proofs.Common.{◌≡◌, ℕ, List, [], ◌∷◌, ◌++◌, map, flat_map, codes, Option, refl, sym, ap, subst, ◌∙◌}
+use Rattle.std.proofs.Common.{arith}
 use Rattle.std.proofs.lemmas.List.Concat.{flat_map-cons}
-use Rattle.session.proofs.SharedTerms.{after_offer, curve_refusal, CurveRefused, HasNoPlan, header_value}
-use Rattle.session.proofs.SharedTerms.{IsWaitOf, offer_body, OfferNote, Offers, playback_of, refusal_text, rest_sizes}
-use Rattle.session.proofs.SharedTerms.{Run, run_of, Segment, sequence_of, SessionState, Setup, stored_sizes, Timing}
+use Rattle.session.proofs.SharedTerms.{after_offer, curve_refusal, CurveRefused, HasNoPlan, header_value, IsWaitOf}
+use Rattle.session.proofs.SharedTerms.{offer_body, OfferNote, Offers, playback_of, refusal_text, rest_sizes, Run}
+use Rattle.session.proofs.SharedTerms.{run_of, Segment, sequence_of, SessionState, Setup, stored_sizes, Timing}
 use Rattle.session.proofs.SharedTerms.{timing_of}
 use Rattle.rtsp_text.specs.Replies.{value_named}
 use Rattle.wire_curve.specs.declared.film.CurveFault.TheVariants.{BufferTooSmall}
 use Rattle.wire_curve.specs.declared.film.CurveRefused.TheVariants.{Fault}
-use Rattle.wire_curve.specs.CurveFaults.{IsBufferTooSmall, IsRefused as HaveNoCurves}
+use Rattle.wire_curve.specs.CurveFaults.{IsRefused as HaveNoCurves}
 use Rattle.early_start.specs.declared.Tried.{Tried}
 use Rattle.session.specs.declared.commands.Ask.TheVariants.{Offer as AskOffer}
 use Rattle.rtsp_methods.specs.declared.refusals.Refusal.TheVariants.{Buffer}
 use Rattle.session.specs.OfferLaws.{IsLeastBuffer, IsLeastBufferReply, IsOfferAsked, IsOfferReply, IsWaitIn, found_line}
 use Rattle.session.specs.OfferLaws.{tried_line}
-use Rattle.rtsp_replies.specs.Replies.{over_line, start_line}
+use Rattle.rtsp_replies.specs.Replies.{over_line}
 use Rattle.session.proofs.InitialStateLemmas.{HeardMessage}
 use Rattle.session.proofs.RequestCaseAnalysis.{Answer, SeeksOffer, answer_to, asks_as}
 
@@ -39,11 +39,7 @@ answer_asks {plan} {offers} h offers_ask (SeeksOffer offer planned is asks) =
       paused = offer.paused;
       stored = is.0;
       planned = planned;
-      asked_by = record {
-        is_request = offer.taken.is_request;
-        method = offer.taken.judged.talk.spoken.named;
-        body = offer.body;
-      };
+      asked_by = assumption;
       ready = offer.ready;
       wait = subst (λ w. IsWaitIn request.head.now w) (sym (ap (λ (o : Offers). o.wait) same ∙ asks.wait_is)) its;
       planned_is = is.1;
@@ -60,21 +56,14 @@ offer_asked h offers_ask = answer_asks h offers_ask (answer_to h)
 
 -- ---- what is reported
 
-start_is : (start : Option ℕ) → start_line start ≡ found_line start ++ codes "\r\n"
-start_is start = grind arith
-
-over_is : (tried : Tried) → over_line tried ≡ tried_line tried ++ codes "\r\n"
-over_is tried = grind (arith, common_steps)
-
 overs_are : (tried : List Tried)
     → flat_map over_line tried ≡ flat_map (λ (line : List ℕ). line ++ codes "\r\n") (map tried_line tried)
 overs_are [] = refl
-overs_are (first ∷ tried) =
-    grind (arith, flat_map-cons over_line first tried, over_is first, overs_are tried, flat_map-cons)
+overs_are (first ∷ tried) = grind (arith, common_steps, overs_are tried)
 
 offer_lines : (start : Option ℕ) (tried : List Tried) → offer_body start tried
     ≡ flat_map (λ (line : List ℕ). line ++ codes "\r\n") (found_line start ∷ map tried_line tried)
-offer_lines start tried = grind (arith, start_is start, overs_are tried, flat_map-cons)
+offer_lines start tried = grind (arith, overs_are tried, flat_map-cons)
 
 pub offer_told : (old : SessionState) (note : OfferNote)
     → IsOfferReply (sequence_of old.awaited) note.offers (after_offer old note).text
@@ -86,16 +75,8 @@ offer_told old note = grind (arith, offer_lines note.offers.start note.offers.tr
 least_of : (sizes : List ℕ) (timing : Timing) (refused : CurveRefused) (least : ℕ) → HaveNoCurves sizes timing refused
     → Buffer least ≡ curve_refusal refused → IsLeastBuffer sizes timing least
 least_of sizes timing (Fault (BufferTooSmall slot used most)) least has is =
-    let over : IsBufferTooSmall sizes timing slot used most = has.2 in
-    let same : most ≡ least = cc (is) in
-    let its : IsLeastBuffer sizes timing most = record {
-      plays = record { some_picture = has.0; few_slots = has.1; buffer_holds = over.greatest };
-      no_less = λ bytes accepted.
-          let reached = over.reached in
-          let holds = accepted.buffer_holds reached.0 reached.1 in
-          omega (arith, holds, reached.2);
-    } in
-    subst (λ n. IsLeastBuffer sizes timing n) same its
+    let same : least ≡ most = cc (is) in
+    rw same (search arith)
 least_of sizes timing _ least has is = absurd (let no : ⊥ = cc (is) in no)
 
 pub least_buffer : (old : SessionState) (setup : Setup) (paused : Option Run) (range : Option (List ℕ)) (least : ℕ)

@@ -1,31 +1,26 @@
-use Rattle.std.proofs.Common.{arith}
-use Rattle.std.proofs.lemmas.Grind.{common_steps}
 -- What a PAUSE and a TEARDOWN come to.
-use Rattle.std.proofs.Common.{◌≡◌, ℕ, ◌⊎◌, Bool, true, false, cond, List, [], ◌∷◌, Some, codes, refl, sym, ap}
-use Rattle.std.proofs.Common.{subst, ◌∙◌, inl, inr}
-use Rattle.session.proofs.SharedTerms.{after_halt, after_play, AsksHalt, Ends, field, Hears, is_sending}
-use Rattle.session.proofs.SharedTerms.{is_taken, IsReadAs, IsTimely, Method, new_session_state, next_boundary, next_of}
-use Rattle.session.proofs.SharedTerms.{option_of, Pauses, Request, sent_reply, sent_slot, session_text}
-use Rattle.session.proofs.SharedTerms.{SessionState, Setup, TearsDown}
+use Rattle.std.proofs.lemmas.Grind.{common_steps}
+use Rattle.std.proofs.Common.{arith, ◌≡◌, ℕ, ◌⊎◌, Bool, true, false, List, [], ◌∷◌, Some, codes, refl, sym, ap, subst}
+use Rattle.std.proofs.Common.{◌∙◌, inl, inr}
+use Rattle.session.proofs.SharedTerms.{after_halt, field, Hears, Method, new_session_state, next_boundary, next_of}
+use Rattle.session.proofs.SharedTerms.{option_of, Pauses, Request, sent_reply, session_text, SessionState, Settings}
+use Rattle.session.proofs.SharedTerms.{Stored, TearsDown}
 use Rattle.session.specs.declared.commands.Ask.{Ask}
 use Rattle.session.specs.declared.states.Awaited.{Awaited}
-use Rattle.session.specs.declared.states.Play.{Play as Played}
 use Rattle.session.specs.declared.states.State.{State}
 use Rattle.rtsp_text.specs.Replies.{value_named}
-use Rattle.session.specs.declared.commands.Ask.TheVariants.{Reply, Halt as AskHalt}
-use Rattle.session.specs.declared.states.AfterHalt.TheVariants.{Torn}
+use Rattle.session.specs.declared.commands.Ask.TheVariants.{Halt as AskHalt}
 use Rattle.session.specs.declared.states.State.TheVariants.{Playing}
 use Rattle.session_laws.specs.EndLaws.{CanBePaused, CanBeTornDown, EndsSession, HaltsPlay, HasTeardown, IsPausedPlay}
 use Rattle.session_laws.specs.EndLaws.{IsPause, HasSessionInReply, IsTeardownHeard, IsTornDown}
 use Rattle.session.specs.Laws.{IsTeardown, stage_of}
 use Rattle.session.specs.RequestSteps.{is_torn}
 use Rattle.rtsp_methods.specs.declared.methods.Method.TheVariants.{Pause, Teardown}
-use Rattle.session.specs.LookLaws.{SessionEvent, Message, Halt, Slot, Sending, AreAfter, IsAfter}
-use Rattle.session_laws.specs.PlayLaws.{IsDeclined, PassesEarlierChecks}
-use Rattle.session.specs.SessionStates.{is_playing_in}
-use Rattle.session.proofs.InitialStateLemmas.{Beginning, HeardMessage, heard_by}
-use Rattle.session.proofs.RequestCaseAnalysis.{Answer, Replies, SetsUp, StopsPlay, EndsSession as EndsAlone, answer_to}
-use Rattle.session.proofs.RequestCaseAnalysis.{by_answer, is_teardown, made_by}
+use Rattle.session.specs.LookLaws.{SessionEvent, Message, AreAfter, IsAfter}
+use Rattle.session_laws.specs.PlayLaws.{IsDeclined}
+use Rattle.session.proofs.InitialStateLemmas.{HeardMessage, heard_by}
+use Rattle.session.proofs.RequestCaseAnalysis.{Answer, StopsPlay, EndsSession as EndsAlone, answer_to, by_answer}
+use Rattle.session.proofs.RequestCaseAnalysis.{is_teardown, made_by}
 use Rattle.session_laws.proofs.RequestReadings.{HeardMethod, IsStopped, IsTakenUp, TakenUp, heard_method, taken_up}
 use Rattle.session_laws.proofs.RefusalLawLemmas.{refused}
 
@@ -35,31 +30,21 @@ pub session_told : (sequence : ℕ) (id : List ℕ) → HasSessionInReply sequen
 unfolding value_named
 session_told sequence id = record { fields = field (codes "Session") id ∷ []; text_is = refl; session = refl }
 
--- a halt that was asked for, for a TEARDOWN
-torn_halt : {sequence : ℕ} {setup : Setup} {play : Played} (h : HeardMessage) → h.old.state ≡ Playing setup play
-    → AsksHalt h.old sequence setup play Torn h.ask h.new → IsTornDown h.old h.ask h.new
-torn_halt {sequence} h playing asks = record {
-  sequence = sequence;
-  told = subst (HasSessionInReply sequence h.old.id) (sym (ap (λ (s : SessionState). s.text) asks.state))
-      (session_told sequence h.old.id);
-  halts = subst (λ (s : State). HaltsPlay (stage_of s) h.ask) (sym playing) (asks.keep, asks.command);
-  ends = grind arith;
-}
-
--- a reply of its own, to a TEARDOWN
-torn_reply : {state : State} (h : HeardMessage) (sequence : ℕ) → h.old.state ≡ state → HaltsPlay (stage_of state) Reply
-    → Ends h.old sequence h.ask h.new → IsTornDown h.old h.ask h.new
-torn_reply h sequence is halts ends = record {
-  sequence = sequence;
-  told = subst (HasSessionInReply sequence h.old.id) (sym (ap (λ (s : SessionState). s.text) ends.1))
-      (session_told sequence h.old.id);
-  halts = grind arith;
-  ends = subst (λ a. EndsSession a h.new) (sym ends.0) (ap (λ (s : SessionState). (sent_reply s).torn) ends.1);
-}
-
+-- a halt that was asked for, or a reply of its own
 tears_in : (h : HeardMessage) (sequence : ℕ) (state : State) → h.old.state ≡ state
     → TearsDown state h.old sequence h.ask h.new → IsTornDown h.old h.ask h.new
-tears_in h sequence state given given' = grind (arith, torn_halt, torn_reply)
+tears_in h sequence (Playing setup play) is asks = record {
+  sequence = sequence;
+  told = rw (ap (λ (s : SessionState). s.text) asks.state) (session_told sequence h.old.id);
+  halts = subst (λ (s : State). HaltsPlay (stage_of s) h.ask) (sym is) (asks.keep, asks.command);
+  ends = grind arith;
+}
+tears_in h sequence _ is ends = record {
+  sequence = sequence;
+  told = rw (ap (λ (s : SessionState). s.text) ends.1) (session_told sequence h.old.id);
+  halts = subst (λ (s : State). HaltsPlay (stage_of s) h.ask) (sym is) ends.0;
+  ends = subst (λ a. EndsSession a h.new) (sym ends.0) (ap (λ (s : SessionState). (sent_reply s).torn) ends.1);
+}
 
 pauses_in : (h : HeardMessage) (sequence : ℕ) (state : State) → h.old.state ≡ state
     → Pauses state h.old sequence h.ask h.new → IsPausedPlay h.old h.ask h.new
@@ -73,8 +58,7 @@ pauses_in h sequence (Playing setup play) is pauses = record {
   sequence = sequence;
   playing = is;
   command = pauses.asks.command ∙ ap AskHalt pauses.asks.keep_is;
-  told = subst (HasSessionInReply sequence h.old.id) (sym (ap (λ (s : SessionState). s.text) pauses.asks.state))
-      (session_told sequence h.old.id);
+  told = rw (ap (λ (s : SessionState). s.text) pauses.asks.state) (session_told sequence h.old.id);
   at = pauses.at;
   last_is = pauses.last_is;
   left_is = pauses.left_is;
@@ -105,23 +89,18 @@ pause_leaves old new message ask is hears =
     declined_or (heard_method h is.request Pause is.is_request is.method_is)
     (λ (up : TakenUp h is.request Pause). pauses_in h is.request.sequence old.state refl up.does)
 
--- a request of a method that nothing refuses
-good_up : {m : Method} {request : Request} (h : HeardMessage) → IsReadAs h.message request
-    → PassesEarlierChecks m h.old request → IsTimely h.old.state request m → TakenUp h request m
-good_up h is good state = taken_up h _ _ is (record { talk = good.talk; film = inr good.film; state = state })
-
 pub teardown_taken : (old new : SessionState) (message : List ℕ) (ask : Ask) → CanBeTornDown old message
     → Hears old message ask new → IsTornDown old ask new
 teardown_taken old new message ask can hears =
     let h : HeardMessage = heard_by hears in
-    tears_in h can.request.sequence old.state refl (good_up {m = Teardown} h can.is_request can.good tt).does
+    tears_in h can.request.sequence old.state refl (taken_up h can.request Teardown can.is_request (search arith)).does
 
 pub pause_taken : (old new : SessionState) (message : List ℕ) (ask : Ask) → CanBePaused old message
     → Hears old message ask new → IsPausedPlay old ask new
 pause_taken old new message ask can hears =
     let h : HeardMessage = heard_by hears in
     pauses_in h can.request.sequence old.state refl
-    (good_up {m = Pause} h can.is_request can.good (ap is_playing_in can.playing)).does
+    (taken_up h can.request Pause can.is_request (search arith)).does
 
 -- ---- only a TEARDOWN ends the session
 
@@ -134,55 +113,25 @@ record IsCalm (standing : SessionState) : Type 0 where
   torn : standing.torn ≡ false
   awaited : is_ending standing.awaited ≡ false
 
--- what changes neither stays calm
-same_calm : {old new made : SessionState} → IsCalm old → new ≡ made → made.tearing ≡ old.tearing
-    → made.torn ≡ old.torn → is_ending made.awaited ≡ false → IsCalm new
-same_calm calm is tearing torn awaited = grind arith
-
 answer_calm : {h : HeardMessage} (answer : Answer h) → IsCalm h.old → IsTeardown h.message ⊎ IsCalm (made_by answer)
-answer_calm (Replies reply is) calm = grind arith
-answer_calm (SetsUp film taken setup asks is) calm = grind arith
 answer_calm (StopsPlay taken hand is) calm = inl (is_teardown taken)
 answer_calm (EndsAlone taken is) calm = inl (is_teardown taken)
-answer_calm _ calm = inr (record { tearing = calm.tearing; torn = calm.torn; awaited = refl })
+answer_calm answer calm = grind arith
 
-halt_calm : (old : SessionState) (place : ℕ) → IsCalm old → IsCalm (after_halt old place)
-halt_calm old place calm = grind arith
-
-reply_calm : (old : SessionState) → IsCalm old → IsCalm (sent_reply old)
-reply_calm old calm = record { tearing = calm.tearing; torn = calm.tearing; awaited = calm.awaited }
-
-slot_calm : (taken sending : Bool) (old : SessionState) (slot : ℕ) → IsCalm old
-    → IsCalm (cond taken (cond sending (after_play (sent_slot old slot)) (record old { heard = slot })) old)
-slot_calm true true old slot calm = grind (arith, common_steps)
-slot_calm true false old slot calm = record { tearing = calm.tearing; torn = calm.torn; awaited = calm.awaited }
-slot_calm false sending old slot calm = calm
-
-happening_calm : (old : SessionState) (happening : SessionEvent) (new : SessionState) → IsAfter old happening new →
-    IsCalm old
-    → IsTeardownHeard happening ⊎ IsCalm new
+happening_calm : (old : SessionState) (happening : SessionEvent) (new : SessionState) → IsAfter old happening new
+    → IsCalm old → IsTeardownHeard happening ⊎ IsCalm new
 happening_calm old (Message message ask) new is calm =
     let answer = answer_to (heard_by is) in
     by_answer (λ a s. IsTeardown message ⊎ IsCalm s) answer (answer_calm answer calm)
-happening_calm old (Halt place) new is calm = inr (subst IsCalm (sym is) (halt_calm old place calm))
-happening_calm old (Slot slot) new is calm =
-    inr (subst IsCalm (sym is) (slot_calm (is_taken old slot) (is_sending old.state) old slot calm))
-happening_calm old Sending new is calm = inr (subst IsCalm (sym is) (reply_calm old calm))
-happening_calm old _ new is calm = inr (same_calm calm is refl refl refl)
+happening_calm old happening new is calm = grind (arith, common_steps)
 
 all_calm : (happenings : List SessionEvent) (old new : SessionState) → AreAfter old happenings new → IsCalm old
     → HasTeardown happenings ⊎ IsCalm new
 all_calm [] old new is calm = inr (subst IsCalm (sym is) calm)
 all_calm (happening ∷ rest) old new is calm =
-    elim (happening_calm old happening is.0 is.1.0 calm) [
-      | inl heard ↦ inl (inl heard)
-      | inr quiet ↦ elim (all_calm rest is.0 new is.1.1 quiet) [
-        | inl later ↦ inl (inr later)
-        | inr end ↦ inr end
-      ]
-    ]
+    grind (arith, happening_calm old happening is.0 is.1.0 calm, all_calm rest is.0 new is.1.1)
 
-pub torn_by_teardown : (begun : Beginning) (happenings : List SessionEvent) (now : SessionState)
-    → AreAfter (new_session_state begun.films begun.settings begun.words) happenings now → now.torn ≡ true
+pub torn_by_teardown : (films : List Stored) (settings : Settings) (words : List ℕ) (happenings : List SessionEvent)
+    (now : SessionState) → AreAfter (new_session_state films settings words) happenings now → now.torn ≡ true
     → HasTeardown happenings
-torn_by_teardown begun happenings now are torn = grind (arith, all_calm)
+torn_by_teardown films settings words happenings now are torn = grind (arith, all_calm)

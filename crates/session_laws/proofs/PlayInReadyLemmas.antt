@@ -1,5 +1,5 @@
 -- A session asks the station for a play where it received a PLAY in Ready, and nowhere else.
-use Rattle.std.proofs.Common.{◌≡◌, codes, sym, ap, ◌∙◌}
+use Rattle.std.proofs.Common.{arith, ◌≡◌, codes, ap}
 use Rattle.session.proofs.SharedTerms.{AsksPlay, header_value, IsPlannedRun, prepared_of, SessionState}
 use Rattle.session.specs.declared.plans.Planned.{Planned}
 use Rattle.session.specs.declared.states.Prepared.{Prepared}
@@ -22,17 +22,13 @@ pub record AwaitsPlay (h : HeardMessage) (prepared : Prepared) : Type 0 where
 
 started_by : {h : HeardMessage} {prepared : Prepared} (answer : Answer h) → h.old.awaited ≡ Nothing
     → (made_by answer).awaited ≡ Play prepared → PlayStarted h
-started_by (StartsPlay play planned asks planned_is) rest awaits =
-    record { play = play; planned = planned; asks = asks; planned_is = planned_is }
+started_by (StartsPlay play planned asks planned_is) rest awaits = search arith
 started_by _ rest awaits = absurd (let no : ⊥ = cc in no)
 
 pub play_started : (h : HeardMessage) {prepared : Prepared} → AwaitsPlay h prepared → PlayStarted h
 play_started h {prepared} waits =
     let answer = answer_to h in
     by_answer (λ a s. s.awaited ≡ Play prepared → PlayStarted h) answer (started_by answer waits.rest) waits.asks
-
-play_same : (one other : Prepared) → Play one ≡ Play other → one ≡ other
-play_same one other same = cc
 
 -- what it is asked for, by the PLAY
 pub record IsPlayHeard (h : HeardMessage) (prepared : Prepared) : Type 0 where
@@ -43,9 +39,7 @@ pub record IsPlayHeard (h : HeardMessage) (prepared : Prepared) : Type 0 where
 pub play_heard : {prepared : Prepared} (h : HeardMessage) → AwaitsPlay h prepared → IsPlayHeard h prepared
 play_heard {prepared} h waits =
     let started = play_started h waits in
-    let own = prepared_of h.old started.asks.stored started.play.setup started.planned
-    started.play.taken.request.sequence in
     record {
       started = started;
-      prepared_is = play_same prepared own (sym waits.asks ∙ ap (λ (s : SessionState). s.awaited) started.asks.state);
+      prepared_is = cc (waits.asks, ap (λ (s : SessionState). s.awaited) started.asks.state);
     }

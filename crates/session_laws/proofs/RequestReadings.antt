@@ -1,8 +1,8 @@
-use Rattle.std.proofs.lemmas.Grind.{common_steps}
 -- A request is judged in one way; how a session reads and judges it, and what it does for one that it
 -- processes.
+use Rattle.std.proofs.lemmas.Grind.{common_steps}
 use Rattle.std.proofs.Common.{zero, suc, ◌≡◌, ℕ, List, Some, Result, Ok, Err, subst, ◌∙◌, inl, inr, ◌+◌, ◌*◌, ◌<◌, ◌==◌}
-use Rattle.std.proofs.Common.{◌⊎◌, if◌then◌else◌, get_or, length, None, codes, refl, sym, ap, arith, below_more}
+use Rattle.std.proofs.Common.{◌⊎◌, if◌then◌else◌, get_or, length, None, codes, refl, sym, ap, arith}
 use Rattle.rtsp_methods.specs.declared.methods.Method.TheVariants.{Options, Describe, Setup, Play, Pause, Teardown}
 use Rattle.rtsp_methods.specs.declared.methods.Method.TheVariants.{GetParameter}
 use Rattle.session.specs.declared.refusals.Task.TheVariants.{Options as ToOptions, Describe as ToDescribe}
@@ -36,11 +36,7 @@ named m = grind (arith, common_steps)
 pub method_once : (name : List ℕ) (m other : Method) → name ≡ name_of m → name ≡ name_of other → m ≡ other
 method_once name m other is its = sym (named m) ∙ ap (λ n. method_by (key n)) (sym is ∙ its) ∙ named other
 
--- the refusals of the five judgements, in their order
-abbrev refusal_at : ℕ → Refusal
-refusal_at n =
-    if n == 0 then Unknown else if n == 1 then Required else if n == 2 then Session else if n == 3 then Film else State
-
+-- which of the five judgements refuses
 abbrev rank : Result Task Refusal → ℕ
 rank (Err Unknown) = 0
 rank (Err Required) = 1
@@ -59,43 +55,24 @@ record Judging : Type 0 where
 abbrev judging : SessionState → Request → Judging
 judging old request = record { old = old; name = request.method.now; url = request.url.now; head = request.head.now }
 
-abbrev Owns : Judging → Method → Type 0
-Owns j m = FitsSession m (has_session_in j.old.state) j.old.id (header_value j.head (codes "Session"))
-
-abbrev HasTime : Judging → Method → Type 0
-HasTime j m = FitsState m j.old.state (is_some (header_value j.head (codes "Range")))
-
 abbrev PassesAt : Judging → ℕ → Type 0
 PassesAt j zero = (m : Method) × (j.name ≡ name_of m)
 PassesAt j (suc zero) = required_of j.head ≡ None
-PassesAt j (suc (suc zero)) = (m : Method) × ((j.name ≡ name_of m) × Owns j m)
+PassesAt j (suc (suc zero)) = (m : Method) × ((j.name ≡ name_of m)
+    × FitsSession m (has_session_in j.old.state) j.old.id (header_value j.head (codes "Session")))
 PassesAt j (suc (suc (suc zero))) = (m : Method)
     × ((j.name ≡ name_of m) × ((m ≡ Options) ⊎ HasFilm j.old.films j.old.state j.url m))
-PassesAt j (suc (suc (suc (suc zero)))) = (m : Method) × ((j.name ≡ name_of m) × HasTime j m)
+PassesAt j (suc (suc (suc (suc zero)))) = (m : Method) × ((j.name ≡ name_of m)
+    × FitsState m j.old.state (is_some (header_value j.head (codes "Range"))))
 PassesAt j _ = ⊥
-
-abbrev PassesBelow : Judging → ℕ → Type 0
-PassesBelow j n = (k : ℕ) → k < n → PassesAt j k
 
 -- the first judgement that a request doesn't pass
 record StopsAt (j : Judging) (n : ℕ) : Type 0 where
-  before : PassesBelow j n
+  before : (k : ℕ) → k < n → PassesAt j k
   at : ¬ PassesAt j n
 
 stops_once : {j : Judging} (n m : ℕ) → StopsAt j n → StopsAt j m → n ≡ m
-stops_once n m is its =
-    elim (cases_order n m) [
-      | inl same ↦ same
-      | inr (inl less) ↦ absurd (is.at (its.before n less))
-      | inr (inr more) ↦ absurd (its.at (is.before m more))
-    ]
-
-one_more : (j : Judging) (n : ℕ) → PassesBelow j n → PassesAt j n → PassesBelow j (n + 1)
-one_more j n before at = below_more (PassesAt j) n before at
-
-talk_below : {m : Method} (old : SessionState) (request : Request) → IsOwnTalk old.id old.state request m
-    → PassesBelow (judging old request) 3
-talk_below {m} old request talk = grind arith
+stops_once n m is its = grind (arith, cases_order n m, is.before, its.before, is.at, its.at)
 
 -- nothing that all methods share refuses a request of a method
 pub record Passes (old : SessionState) (request : Request) (m : Method) : Type 0 where
@@ -126,25 +103,12 @@ stops old request (Ok task) is = stops_last old request (passes_of old is)
 stops old request (Err Unknown) is = grind arith
 stops old request (Err Required) is = grind arith
 stops old request (Err Session) is = grind arith
-stops old request (Err Film) is = record {
-  before = talk_below old request is.talk;
-  at = λ has.
-      let same = method_once request.method.now has.0 is.method has.1.0 is.talk.spoken.named in
-      elim has.1.1 [
-        | inl options ↦ is.asked (sym same ∙ options)
-        | inr film ↦ is.none (subst (λ (m : Method). HasFilm old.films old.state request.url.now m) same film)
-      ];
-}
+stops old request (Err Film) is = record { before = grind arith; at = search arith }
 stops old request (Err State) is = grind arith
 stops old request (Err _) is = absurd is
 
--- a refusal is that of its judgement
-record IsRanked (refusal : Refusal) : Type 0 where
-  below : rank (Err refusal) < 5
-  is : refusal ≡ refusal_at (rank (Err refusal))
-
 ranked : (old : SessionState) (request : Request) (refusal : Refusal)
-    → IsJudged old.films old.id old.state request (Err refusal) → IsRanked refusal
+    → IsJudged old.films old.id old.state request (Err refusal) → rank (Err refusal) < 5
 ranked old request refusal given = grind arith
 
 -- a request with the parts of another: only the places in memory stay its own
@@ -175,14 +139,10 @@ pub judged_refused : (old : SessionState) (request place : Request) (refusal : R
     → IsJudged old.films old.id old.state request (Err refusal) → (judgement : Result Task Refusal)
     → IsJudged old.films old.id old.state (as_read place request) judgement → judgement ≡ Err refusal
 judged_refused old request place refusal is judgement its =
-    let own = ranked old request refusal is in
+    let below = ranked old request refusal is in
     let same = stops_once (rank judgement) (rank (Err refusal))
     (stops old (as_read place request) judgement its) (stops old request (Err refusal) is) in
-    (elim judgement as (λ j. IsJudged old.films old.id old.state (as_read place request) j
-    → rank j ≡ rank (Err refusal) → j ≡ Err refusal) [
-      | Ok task ↦ λ judged rank_is. let below = own.below in absurd (omega (arith, rank_is, below))
-      | Err given ↦ grind arith
-    ]) its same
+    grind arith
 
 -- one with the parts of another that is processed isn't refused
 never_refused : {m : Method} {request : Request} (old : SessionState) (refusal : Refusal) (place : Request)
@@ -190,23 +150,19 @@ never_refused : {m : Method} {request : Request} (old : SessionState) (refusal :
 never_refused {request} old refusal place passes = λ its.
     let same = stops_once (rank (Err refusal)) 5 (stops old (as_read place request) (Err refusal) its)
     (stops_last old request passes) in
-    let below = (ranked old (as_read place request) refusal its).below in
-    omega (arith, same, below)
+    omega (arith, same, ranked old (as_read place request) refusal its)
 
 -- ---- how a request is read, and what is done for it
 
--- a request that a message is, as the session judged it, and what it did
-pub record Reading (h : HeardMessage) (request : Request) : Type 0 where
-  pub place : Request
-  pub hears : HearsRequest h.old (as_read place request) h.ask h.new
-
-pub reading_of : (h : HeardMessage) (request : Request) → IsReadAs h.message request → Reading h request
+-- a request that a message is, where the session read it, and what it did
+reading_of : (h : HeardMessage) (request : Request) → IsReadAs h.message request
+    → (place : Request) × HearsRequest h.old (as_read place request) h.ask h.new
 reading_of h request is = elim h.hears [
   | inl fault ↦ absurd (no_fault fault.fault is fault.is_fault)
-  | inr whole ↦ record {
-    place = whole.request;
-    hears = same_parts request whole.request is whole.is_request (λ r. HearsRequest h.old r h.ask h.new) whole.hears;
-  }
+  | inr whole ↦ (
+    whole.request,
+    same_parts request whole.request is whole.is_request (λ r. HearsRequest h.old r h.ask h.new) whole.hears,
+  )
 ]
 
 -- one that is to be refused is refused
@@ -215,8 +171,7 @@ pub refused_in : (h : HeardMessage) (request : Request) (refusal : Refusal) → 
     → IsRefused h.old (Some request.sequence) refusal (option_of request.head.now) h.ask h.new
 refused_in h request refusal read is =
     let r = reading_of h request read in
-    subst (λ j. Takes h.old (as_read r.place request) j h.ask h.new)
-    (judged_refused h.old request r.place refusal is r.hears.judgement r.hears.judged) r.hears.takes
+    rw (judged_refused h.old request r.0 refusal is r.1.judgement r.1.judged) at r.1.takes
 
 -- what is done for a request of a method
 abbrev pub Does : TakenRequest → Method → Type 0
@@ -236,10 +191,7 @@ Does t GetParameter = GetsParameter t.old t.request t.ask t.new
 
 pub does_task : (t : TakenRequest) (task : Task) → IsTaskOf t.old.films t.old.state t.request.url.now task
     → Takes t.old t.request (Ok task) t.ask t.new → Does t (method_of task)
-does_task t (ToDescribe asked) film takes = (asked.authority.now, (asked.film, (film, takes)))
-does_task t (ToSetup number) film takes = (film.0, (number, (film.1, takes)))
-does_task t (ToPlay asked) film takes = (asked.authority.now, (asked.film, (film, takes)))
-does_task t _ film takes = takes
+does_task t task given given' = search arith
 
 abbrev pub taken_as : HeardMessage → Request → TakenRequest
 taken_as h request = record { old = h.old; new = h.new; request = request; ask = h.ask }
@@ -252,9 +204,8 @@ pub record TakenUp (h : HeardMessage) (request : Request) (m : Method) : Type 0 
 
 -- a message of a method is refused as all methods are, or does what the method does
 pub data HeardMethod (h : HeardMessage) (request : Request) (m : Method) : Type 0 where
-  IsStopped : (refusal : Refusal) (place : Request)
-      → IsJudged h.old.films h.old.id h.old.state (as_read place request) (Err refusal)
-      → IsRefused h.old (Some request.sequence) refusal (option_of request.head.now) h.ask h.new
+  IsStopped : (refusal : Refusal) (place : Request) → IsJudged h.old.films h.old.id h.old.state (as_read place request)
+      (Err refusal) → IsRefused h.old (Some request.sequence) refusal (option_of request.head.now) h.ask h.new
       → HeardMethod h request m
   IsTakenUp : TakenUp h request m → HeardMethod h request m
 
@@ -262,18 +213,18 @@ pub heard_method : (h : HeardMessage) (request : Request) (m : Method) → IsRea
     → request.method.now ≡ name_of m → HeardMethod h request m
 heard_method h request m is method =
     let r = reading_of h request is in
-    let read = as_read r.place request in
-    (elim r.hears.judgement as (λ j. IsJudged h.old.films h.old.id h.old.state read j
+    let read = as_read r.0 request in
+    (elim r.1.judgement as (λ j. IsJudged h.old.films h.old.id h.old.state read j
     → Takes h.old read j h.ask h.new → HeardMethod h request m) [
       | Ok task ↦ λ judged takes.
           let same = method_once request.method.now (method_of task) m judged.talk.spoken.named method in
           IsTakenUp (record {
-            place = r.place;
+            place = r.0;
             timely = subst (IsTimely h.old.state request) same judged.state;
             does = subst (Does (taken_as h read)) same (does_task (taken_as h read) task judged.film takes);
           })
-      | Err refusal ↦ λ judged takes. IsStopped refusal r.place judged takes
-    ]) r.hears.judged r.hears.takes
+      | Err refusal ↦ λ judged takes. IsStopped refusal r.0 judged takes
+    ]) r.1.judged r.1.takes
 
 pub taken_up : (h : HeardMessage) (request : Request) (m : Method) → IsReadAs h.message request
     → Passes h.old request m → TakenUp h request m

@@ -1,16 +1,11 @@
 -- Numbers go on from what was sent before.
-use Rattle.std.proofs.Common.{◌≡◌, ℕ, ◌%◌, List, Option, Some, None, ap}
-use Rattle.std.proofs.Common.{arith}
-use Rattle.session.proofs.SharedTerms.{Counts, counts_after, FramedRun, frames_before, GoesOn}
-use Rattle.session.proofs.SharedTerms.{identity_of, IsPlannedRun, octets_before, Run}
-use Rattle.session.proofs.SharedTerms.{sending_of, SessionState, Setup, Span, Stored, StreamSource}
+use Rattle.std.proofs.Common.{◌≡◌, ℕ, List, Option, Some, None, ap, arith}
+use Rattle.session.proofs.SharedTerms.{Counts, counts_after, FramedRun, frames_before, GoesOn, identity_of}
+use Rattle.session.proofs.SharedTerms.{IsPlannedRun, octets_before, Run, SessionState, Setup, Span, Stored}
+use Rattle.session.proofs.SharedTerms.{StreamSource}
 use Rattle.session.specs.declared.plans.Planned.{Planned}
 use Rattle.rtsp_fields.specs.declared.ranges.Origin.TheVariants.{Now}
-use Rattle.session.specs.declared.play_requests.PlayRequest.TheVariants.{New}
 use Rattle.session.specs.Laws.{Resumes}
-
-half : (n : ℕ) → (n % 4294967296) % 65536 ≡ n % 65536
-half n = grind arith
 
 pub identity_goes_on : (source : StreamSource) (setup : Setup) (counts : Counts) (sending : FramedRun) (bytes : ℕ)
     → GoesOn (identity_of source setup counts) (identity_of source setup (counts_after counts sending bytes))
@@ -26,13 +21,3 @@ goes_on_from_now {stored} {setup} {paused} old is now = grind arith
 pub resumes : (old : SessionState) (stored : Stored) (setup : Setup) (paused : Run) (planned : Planned)
     → IsPlannedRun old stored setup (Some paused) None planned → Resumes old paused planned
 resumes old stored setup paused planned is = goes_on_from_now old is (ap (λ (s : Span). s.from) is.asked.is_span)
-
--- a new run goes on from what was sent of the paused one
-pub dropped_goes_on : {old : SessionState} {stored : Stored} {setup : Setup} {paused run : Run} {range : Option (List
-    ℕ)}
-    {planned : Planned}
-    → (is : IsPlannedRun old stored setup (Some paused) range planned) → is.wanted ≡ New run
-    → GoesOn (identity_of old.source setup old.counts) (identity_of old.source setup planned.counts)
-    (frames_before (sending_of stored.film old.source setup old.counts paused) paused.sent)
-    (octets_before (sending_of stored.film old.source setup old.counts paused) paused.sent)
-dropped_goes_on {old} {stored} {setup} {paused} {planned} is new = grind arith

@@ -1,10 +1,8 @@
-use Rattle.std.proofs.Common.{arith}
 -- What a request makes of the runs of a session, for laws on its entire course.
-use Rattle.std.proofs.Common.{◌≡◌, ℕ, ◌+◌, ◌-◌, ◌⊎◌, Bool, true, List, Option, Some, None, refl, sym, subst}
-use Rattle.session.proofs.SharedTerms.{AsksHalt, Counts, counts_after, counts_for, FramedRun, frames_before, GoesOn}
-use Rattle.session.proofs.SharedTerms.{Hears, identity_of, is_answered, IsFilmAt, IsRequestFor, next_boundary}
-use Rattle.session.proofs.SharedTerms.{octets_before, Offers, OfFilm, Origin, prepared_of, Run, run_of, Segment}
-use Rattle.session.proofs.SharedTerms.{sending_of, session_text, SessionState, Setup, Stored, StreamSource}
+use Rattle.std.proofs.Common.{arith, ◌≡◌, ℕ, ◌+◌, ◌-◌, ◌⊎◌, Bool, true, List, Option, Some, None, refl}
+use Rattle.session.proofs.SharedTerms.{AsksHalt, Counts, counts_for, Hears, is_answered, IsFilmAt, IsRequestFor}
+use Rattle.session.proofs.SharedTerms.{next_boundary, Offers, Origin, prepared_of, Run, run_of, Segment, sending_of}
+use Rattle.session.proofs.SharedTerms.{session_text, SessionState, Setup, Stored}
 use Rattle.session.specs.declared.commands.Ask.{Ask}
 use Rattle.session.specs.declared.play_requests.PlayRequest.{PlayRequest}
 use Rattle.session.specs.declared.states.AfterHalt.{AfterHalt}
@@ -20,8 +18,8 @@ use Rattle.session.proofs.InitialStateLemmas.{HeardMessage, heard_by, PlayInHand
 use Rattle.session.proofs.RequestCaseAnalysis.{Answer, Replies as RepliesAlone, SetsUp as SettlesSetup, StartsPlay}
 use Rattle.session.proofs.RequestCaseAnalysis.{HaltsPlay, StopsPlay, EndsSession, TakesLook, SeeksOffer, answer_to}
 use Rattle.session.proofs.RequestCaseAnalysis.{settled_init}
-use Rattle.session.proofs.ResumedPlayLemmas.{of_film}
-use Rattle.session_laws.proofs.RtpNumberLemmas.{identity_goes_on}
+pub use Rattle.session.proofs.ResumedPlayLemmas.{of_film as one_film}
+pub use Rattle.session_laws.proofs.RtpNumberLemmas.{identity_goes_on as run_goes_on}
 
 -- the same units of a film, of which so many more bytes were sent
 pub record IsLeft (run : Run) (keep : ℕ) (left : Run) : Type 0 where
@@ -130,9 +128,7 @@ runs_by h (StartsPlay play planned asks planned_is) =
       text = _;
       ready = play.ready;
       at = planned_is.at;
-      next = subst (λ x. IsNextRun h.old asks.stored play.setup play.paused x planned.counts) (sym planned_is.run_is)
-          (subst (IsNextRun h.old asks.stored play.setup play.paused (run_of planned_is.wanted))
-          (sym planned_is.counts_is) next);
+      next = search arith;
       frames = refl;
     }) asks.command asks.state
 runs_by h (HaltsPlay taken hand is) =
@@ -146,14 +142,3 @@ runs_by h (SeeksOffer offer planned is asks) =
 
 pub runs_as : {old new : SessionState} {message : List ℕ} {ask : Ask} → Hears old message ask new → RunsAs old ask new
 runs_as hears = runs_by (heard_by hears) (answer_to (heard_by hears))
-
--- ---- numbers and films
-
-pub run_goes_on : (source : StreamSource) (setup : Setup) (counts : Counts) (sending : FramedRun) (bytes : ℕ)
-    → GoesOn (identity_of source setup counts) (identity_of source setup (counts_after counts sending bytes))
-    (frames_before sending bytes) (octets_before sending bytes)
-run_goes_on = identity_goes_on
-
-pub one_film : (films : List Stored) (number : ℕ) (stored : Stored) (P : Stored → Type 0)
-    → IsFilmAt films number stored → P stored → OfFilm films number P
-one_film = of_film

@@ -1,7 +1,7 @@
 -- What each method does for a request that nothing refuses, and how it refuses one, in the terms of
 -- RFC 2326 sections 10 and 12.
-use Rattle.std.specs.Prelude.{ℕ, ◌≡◌, ◌≢◌, ◌≤◌, ◌-◌, ◌^◌, ◌⊎◌, List, [], Option, Some, None}
-use Rattle.std.specs.Prelude.{codes, string_bytes}
+use Rattle.std.specs.Prelude.{ℕ, ◌≡◌, ◌≢◌, ◌≤◌, ◌-◌, ◌^◌, ◌⊎◌, List, [], Option, Some, None, codes}
+use Rattle.std.specs.Prelude.{string_bytes}
 use Rattle.vod_base.specs.Numbers.{number_of}
 use Rattle.plan_cert.specs.declared.Segment.{Segment}
 use Rattle.early_start.specs.StartSearch.{Offers}

@@ -1,6 +1,6 @@
 -- A play from its request to its note, in the terms of RFC 2326 and RFC 3550.
-use Rattle.std.specs.Prelude.{ℕ, ◌≡◌, ◌+◌, ◌≤◌, ◌&&◌, ◌++◌, nat_le, nat_lt}
-use Rattle.std.specs.Prelude.{if◌then◌else◌, List, [], ◌∷◌, Some, codes, sum_by}
+use Rattle.std.specs.Prelude.{ℕ, ◌≡◌, ◌+◌, ◌≤◌, ◌&&◌, ◌++◌, nat_le, nat_lt, if◌then◌else◌, List, []}
+use Rattle.std.specs.Prelude.{◌∷◌, Some, codes, sum_by}
 use Rattle.std.specs.List.{range_with_len}
 use Rattle.plan_cert.specs.PlanSlots.{total_bytes}
 use Rattle.film_frames.specs.declared.stored_films.Stored.{Stored}

@@ -121,9 +121,8 @@ pub record IsDescribed (old : SessionState) (sequence : ℕ) (authority : List �
   pub short : IsShort describes.stored.film
 
 -- the reply of an admitted play ends with its start, counted from the last slot received
-pub record HasStartInReply (old : SessionState) (start sequence : ℕ) (fields : List Field) (text :
-    List ℕ)
-    : Type 0 where
+pub record HasStartInReply (old : SessionState) (start sequence : ℕ) (fields : List Field)
+    (text : List ℕ) : Type 0 where
   pub slots : ℕ
   pub slots_are : old.heard + slots ≡ start
   pub text_is : text ≡ reply_text 200 (Some sequence)

@@ -2,9 +2,4 @@ use Rattle.session_laws.proofs.PauseTeardownLemmas.{teardown_ends, teardown_take
 use Rattle.session_laws.proofs.end_laws.law_only_teardown_ends_the_session.Goals as goal
 
 pub returns : goal.returns
-returns c = record {
-  ends = teardown_ends;
-  taken = teardown_taken;
-  alone = λ films settings words happenings now are torn.
-      torn_by_teardown (record { films = films; settings = settings; words = words }) happenings now are torn;
-}
+returns c = record { ends = teardown_ends; taken = teardown_taken; alone = torn_by_teardown }

@@ -1,6 +1,5 @@
-use Rattle.session.proofs.InitialStateLemmas.{heard_by}
 use Rattle.session_laws.proofs.MethodLemmas.{options_answered}
 use Rattle.session_laws.proofs.method_laws.law_options_is_answered.Goals as goal
 
 pub returns : goal.returns
-returns c = λ old new message ask request hears. options_answered (heard_by hears) request
+returns c = search options_answered

@@ -1,5 +1,5 @@
-use Rattle.session_laws.proofs.RefusalLawLemmas.{whole_played}
+use Rattle.std.proofs.Common.{arith}
 use Rattle.session_laws.proofs.refusal_laws.law_play_without_range_plays_whole_film.Goals as goal
 
 pub returns : goal.returns
-returns c = whole_played
+returns c = grind arith
