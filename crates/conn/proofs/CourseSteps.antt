@@ -1,9 +1,7 @@
-use Rattle.std.proofs.lemmas.Grind.{common_steps}
 -- Lemmas on the course of a connection, one doing after another.
-use Rattle.std.specs.Prelude.{⊤}
-use Rattle.std.proofs.Common.{◌≡◌, ℕ, ◌+◌, ◌<◌, ◌≤◌, ◌^◌, ◌&&◌, Bool, true, false, if◌then◌else◌, List, [], ◌∷◌, ◌++◌}
-use Rattle.std.proofs.Common.{length, take, drop, Option, Some, None, Err, refl, ap, sym, ◌∙◌, subst, inl, inr}
-use Rattle.std.proofs.Common.{arith}
+use Rattle.std.proofs.lemmas.Grind.{common_steps}
+use Rattle.std.proofs.Common.{◌≡◌, ℕ, ◌+◌, ◌<◌, ◌^◌, ◌&&◌, Bool, true, false, if◌then◌else◌, List, [], ◌∷◌, ◌++◌}
+use Rattle.std.proofs.Common.{length, take, drop, Option, Some, None, Err, refl, ap, sym, ◌∙◌, subst, inl, inr, arith}
 use Rattle.std.proofs.lemmas.List.{append-nil, append_assoc, map-append, length-append, length-take-le}
 use Rattle.interleave.specs.declared.demux.TheConstants.{MAX_WAITING_BYTES}
 use Rattle.interleave.specs.Elements.{IsFirst}
@@ -22,16 +20,15 @@ use Rattle.conn.specs.declared.connections.Connection.{Connection}
 use Rattle.conn.specs.Events.{HasTakenEvent, IsEndOf, IsProcessed, IsWaiting}
 use Rattle.conn.specs.Journals.{AgreeWith, terms_of}
 use Rattle.conn.proofs.Journals.{agree_longer, agree_then, same_journal, terms_same}
-use Rattle.conn.specs.InputSteps.{Outcome, Unasked, SentPart, Film, Text, Stage, ElementStep, Passed, Answered}
-use Rattle.conn.specs.InputSteps.{IsNext, IsPassed, Takes, TakesAll, after_reply, entry_in, parts_bytes}
-use Rattle.conn.specs.InputSteps.{reply_parts, slot_parts, stage}
-use Rattle.conn.specs.EventSteps.{Comes, Overfull, AtElement, InSlot, InReply, IsStopped}
-use Rattle.conn.specs.EventSteps.{IsUnheard, Round, Runs, RunsAll, ending_events}
-use Rattle.conn.specs.EventSteps.{ending_outcomes, entries_in, round_bytes, round_outcomes, rounds_doings}
+use Rattle.conn.specs.InputSteps.{Outcome, Unasked, SentPart, Film, Text, Stage, ElementStep, Passed, Answered, IsNext}
+use Rattle.conn.specs.InputSteps.{IsPassed, Takes, TakesAll, after_reply, entry_in, parts_bytes, reply_parts}
+use Rattle.conn.specs.InputSteps.{slot_parts, stage}
+use Rattle.conn.specs.EventSteps.{Comes, Overfull, AtElement, InSlot, InReply, IsStopped, Round, Runs, RunsAll}
+use Rattle.conn.specs.EventSteps.{ending_events, entries_in, round_bytes, round_outcomes, rounds_doings}
 use Rattle.conn.specs.EventSteps.{rounds_outcomes, taking_bytes, taking_outcomes, takings_bytes, takings_outcomes}
 use Rattle.conn.specs.Observations.{AreNoted, HasAsked, HasFailedSend, HasHandledEvent, HasCourse, HasEnded}
-use Rattle.conn.specs.Observations.{HasLostReply, HasRound, HasRun, HasTaken, HasProcessedInput, IsSent}
-use Rattle.conn.specs.Observations.{Observed, observed}
+use Rattle.conn.specs.Observations.{HasLostReply, HasRound, HasRun, HasTaken, HasProcessedInput, IsSent, Observed}
+use Rattle.conn.specs.Observations.{observed}
 use Rattle.conn.proofs.EventPremises.{RequestInFront}
 use Rattle.conn.proofs.JoinedLists.{joined-append}
 
@@ -45,7 +42,7 @@ sent_on a xs ys = told_more-append a (sends xs) (sends ys) ∙ ap (told_more a) 
 
 -- what the seat made
 pub entries_in-append : (xs ys : List Outcome) → entries_in (xs ++ ys) ≡ entries_in xs ++ entries_in ys
-entries_in-append = joined-append (record { part = entry_in; all = entries_in; none = refl; one = λ x xs. refl })
+entries_in-append = joined-append entry_in entries_in refl (λ x xs. refl)
 
 pub noted_none : (seat : SeatState) → AreNoted seat seat []
 noted_none seat = record { mine = sym (append-nil seat.mine); seat = seat_none seat; agree = omega arith }
@@ -68,31 +65,23 @@ noted_on {a} {b} {c} {xs} {ys} first second = record {
 -- what is noted of a connection agrees with its seat's journal from the beginning
 pub seen_agrees : {old new : SeatState} {outcomes : List Outcome} → AreNoted old new outcomes
     → AgreeWith (terms_of new) new.seen 0 outcomes
-seen_agrees {old} {new} {outcomes} noted =
-    subst (λ terms. AgreeWith terms new.seen 0 outcomes) (sym (terms_same old new noted.seat))
-    (agree_longer (same_journal (terms_of old) new.seen 0 (length old.seen) (omega arith)) outcomes noted.agree)
-
--- elements that are processed from a stage on
-pub record TakenLater : Type 0 where
-  pub old : Stage
-  pub new : Stage
-  pub takings : List ElementStep
-  pub takes : TakesAll old takings new
+seen_agrees {old} {new} {outcomes} noted = search (
+  terms_same old new noted.seat,
+  same_journal (terms_of old) new.seen 0 (length old.seen) (omega arith),
+  agree_longer,
+)
 
 -- elements
-takes_on : (a : Stage) (later : TakenLater) (xs : List ElementStep) → TakesAll a xs later.old →
-    TakesAll a (xs ++ later.takings) later.new
-takes_on a later [] first = subst (λ s. TakesAll s later.takings later.new) first later.takes
-takes_on a later (x ∷ xs) first = (first.0, (first.1.0, takes_on first.0 later xs first.1.1))
+takes_on : (a b c : Stage) (xs ys : List ElementStep) → TakesAll a xs b → TakesAll b ys c → TakesAll a (xs ++ ys) c
+takes_on a b c [] ys first second = rw first at second
+takes_on a b c (x ∷ xs) ys first second = (first.0, (first.1.0, takes_on first.0 b c xs ys first.1.1 second))
 
 pub takings_bytes-append : (xs ys : List ElementStep) → takings_bytes (xs ++ ys) ≡ takings_bytes xs ++ takings_bytes ys
-takings_bytes-append = joined-append
-    (record { part = taking_bytes; all = takings_bytes; none = refl; one = λ x xs. refl })
+takings_bytes-append = joined-append taking_bytes takings_bytes refl (λ x xs. refl)
 
 takings_outcomes-append : (xs ys : List ElementStep)
     → takings_outcomes (xs ++ ys) ≡ takings_outcomes xs ++ takings_outcomes ys
-takings_outcomes-append = joined-append
-    (record { part = taking_outcomes; all = takings_outcomes; none = refl; one = λ x xs. refl })
+takings_outcomes-append = joined-append taking_outcomes takings_outcomes refl (λ x xs. refl)
 
 pub taken_none : (a : Observed) → HasTaken a a
 taken_none a = record { takings = []; takes = refl; sent = sent_none a.told; noted = noted_none a.seat }
@@ -102,31 +91,27 @@ pub taken_one : (a b : Observed) (taking : ElementStep) → Takes a.stage taking
 taken_one a b taking takes sent noted = record {
   takings = taking ∷ [];
   takes = (b.stage, (takes, refl));
-  sent = subst (λ bs. IsSent a.told bs b.told) (sym (append-nil (taking_bytes taking))) sent;
-  noted = subst (λ os. AreNoted a.seat b.seat os) (sym (append-nil (taking_outcomes taking))) noted;
+  sent = rw append-nil sent;
+  noted = rw append-nil noted;
 }
 
 pub taken_on : {a b c : Observed} → HasTaken a b → HasTaken b c → HasTaken a c
 taken_on {a} {b} {c} first second = record {
   takings = first.takings ++ second.takings;
-  takes = takes_on a.stage
-      (record { old = b.stage; new = c.stage; takings = second.takings; takes = second.takes }) first.takings
-      first.takes;
-  sent = subst (λ bs. IsSent a.told bs c.told) (sym (takings_bytes-append first.takings second.takings))
-      (second.sent ∙ ap (λ t. told_more t (sends (takings_bytes second.takings))) first.sent
-      ∙ sent_on a.told (takings_bytes first.takings) (takings_bytes second.takings));
+  takes = takes_on a.stage b.stage c.stage first.takings second.takings first.takes second.takes;
+  sent = search (
+    takings_bytes-append first.takings second.takings,
+    sent_on a.told (takings_bytes first.takings) (takings_bytes second.takings),
+  );
   noted = search (takings_outcomes-append, noted_on);
 }
-
-lost_on : (a b c : Observed) → HasTaken a b → HasLostReply b c → HasLostReply a c
-lost_on a b c first lost = record { mid = lost.mid; taken = taken_on first lost.taken; lost = lost.lost }
 
 pub up_on : (result : Option ConnEnd) (a b c : Observed) → HasTaken a b → HasProcessedInput result b c →
     HasProcessedInput result a c
 up_on None a b c first up = (taken_on first up.0, up.1)
 up_on (Some end) a b c first up =
     elim up [
-      | inl lost ↦ inl (lost.0, lost_on a b c first lost.1)
+      | inl lost ↦ inl (lost.0, record { mid = lost.1.mid; taken = taken_on first lost.1.taken; lost = lost.1.lost })
       | inr stopped ↦ inr (taken_on first stopped.0, stopped.1)
     ]
 
@@ -160,15 +145,7 @@ round_seen {event} {a} seen taken = record {
 pub event_up : {event : IoEvent} {a : Observed} (seen : EventSeen event a) (result : Option ConnEnd) (c : Observed)
     → HasProcessedInput result seen.opened c → HasHandledEvent result event a c
 event_up seen None c up =
-    let its = round_seen seen up.0 in
-    record {
-      round = its.round;
-      event_is = its.event_is;
-      runs = its.runs;
-      idle = up.1;
-      sent = its.sent;
-      noted = its.noted;
-    }
+    let its = round_seen seen up.0 in search (its, up.1)
 event_up {a = a} seen (Some end) c up =
     λ count.
     elim up [
@@ -179,8 +156,7 @@ event_up {a = a} seen (Some end) c up =
             ending = InReply its.round fails.message fails.outcome fails.front;
             event_is = ap (λ e. e ∷ []) its.event_is;
             ends = (lost.0, record { mid = fails.mid.stage; runs = its.runs; fails = fails.fails });
-            sent = fails.sent ∙ ap (λ t. told_more t (sends fails.front)) its.sent
-                ∙ sent_on a.told (round_bytes its.round) fails.front;
+            sent = search (arith, sent_on);
             noted = noted_on its.noted fails.noted;
           }
       | inr stopped ↦
@@ -208,8 +184,7 @@ slot_broken slot a c broken =
 pub overfull : (bytes : List ℕ) (a c : Observed) → MAX_WAITING_BYTES < length a.stage.input + length bytes
     → a.stage.session.waits ≡ true → c ≡ a → HasHandledEvent (Some TooMuchInput) (HeardBytes bytes) a c
 overfull bytes a c many waits is =
-    subst (λ s. HasHandledEvent (Some TooMuchInput) (HeardBytes bytes) a s) (sym is)
-    (λ count. record {
+    rw is (λ count. record {
       ending = Overfull bytes;
       event_is = refl;
       ends = (refl, many, waits, refl);
@@ -218,28 +193,22 @@ overfull bytes a c many waits is =
     })
 
 -- the connection goes on
-abbrev GoesOn : Option ConnEnd → Type 0
-GoesOn None = ⊤
-GoesOn (Some end) = ⊥
-
 pub goes_on : (heard : Heard) (waiting : ℕ) (c : Connection) → HasTakenEvent heard waiting None c →
     (c.session.torn ≡ false) × (c.session.lost ≡ false) × IsWaiting c
-goes_on End waiting c has = absurd (subst GoesOn has tt)
+goes_on End waiting c has = cc
 goes_on (Slot slot) waiting c has = (has.0, has.1, has.2)
 goes_on (Bytes n) waiting c has =
     elim has [
-      | inl full ↦ absurd (subst GoesOn full.1 tt)
+      | inl full ↦ cc
       | inr up ↦ (up.1.0, up.1.1, up.1.2)
     ]
 
 -- events, one after another
 rounds_doings-append : (xs ys : List Round) → rounds_doings (xs ++ ys) ≡ rounds_doings xs ++ rounds_doings ys
-rounds_doings-append = joined-append
-    (record { part = λ x. x.event ∷ sends (round_bytes x); all = rounds_doings; none = refl; one = λ x xs. refl })
+rounds_doings-append = joined-append (λ x. x.event ∷ sends (round_bytes x)) rounds_doings refl (λ x xs. refl)
 
 rounds_outcomes-append : (xs ys : List Round) → rounds_outcomes (xs ++ ys) ≡ rounds_outcomes xs ++ rounds_outcomes ys
-rounds_outcomes-append = joined-append
-    (record { part = round_outcomes; all = rounds_outcomes; none = refl; one = λ x xs. refl })
+rounds_outcomes-append = joined-append round_outcomes rounds_outcomes refl (λ x xs. refl)
 
 pub run_none : (a : Observed) → HasRun 0 a a
 run_none a = grind (arith, common_steps)
@@ -257,7 +226,6 @@ pub record EventReceived (a : Observed) : Type 0 where
 
 pub run_on : {a c : Observed} (r : EventReceived a) → HasRound r.event r.heard c → HasRun (r.count + 1) a c
 run_on {a} {c} r next =
-    let b = r.before in
     let run = r.run in
     let round = next.round in
     let doings : List IoEvent = round.event ∷ sends (round_bytes round) in
@@ -267,16 +235,12 @@ run_on {a} {c} r next =
       count_is = length-append run.rounds (round ∷ []) ∙ ap (λ n. n + 1) run.count_is;
       runs = runs_on a.stage run.rounds run.runs;
       told = grind (arith, told_more-append, rounds_doings-append);
-      noted = subst (λ os. AreNoted a.seat c.seat os)
-          (sym (rounds_outcomes-append run.rounds (round ∷ []) ∙ ap (λ os. rounds_outcomes run.rounds ++ os) outcomes))
-          (noted_on run.noted (subst (λ s. AreNoted s c.seat (round_outcomes round)) r.seat_is next.noted));
+      noted = rw (rounds_outcomes-append, outcomes) (noted_on run.noted (rw r.seat_is at next.noted));
     }
   where
     runs_on : (old : Stage) (rounds : List Round) → RunsAll old rounds r.before.stage
         → RunsAll old (rounds ++ next.round ∷ []) c.stage
-    runs_on old [] runs =
-        let there : Runs r.before.stage next.round c.stage = grind arith in
-        (c.stage, (subst (λ s. Runs s next.round c.stage) runs there, next.idle, refl))
+    runs_on old [] runs = search arith
     runs_on old (first ∷ rounds) runs = (runs.0, (runs.1.0, runs.1.1, runs_on runs.0 rounds runs.1.2))
 
 -- and it was the last
@@ -294,13 +258,8 @@ run_end {end} {a} {c} r more last =
       few = omega (arith, run.count_is, one, more);
       ends = grind arith;
       told = grind (arith, common_steps);
-      noted = noted_on run.noted (subst (λ s. AreNoted s c.seat (ending_outcomes ending)) r.seat_is last.noted);
+      noted = noted_on run.noted (rw r.seat_is at last.noted);
     }
-
--- or no event was received any more
--- no more than 2^40 events were received
-few_heard : (end : ConnEnd) (count : ℕ) → IsUnheard end count → count ≤ 2 ^ 40
-few_heard end count given = grind arith
 
 -- a first element that is too long: what was processed before it stands, and the connection ends
 pub taken_fault : {a : Observed} (fault : DemuxFault) (end : ConnEnd) → a.stage.session.torn ≡ false
@@ -336,7 +295,7 @@ input_is connection told seat same = ap (λ (i : List ℕ). observed (record con
 -- the first element was passed over
 pub taken_passed : {a b : Observed} (n : ℕ) → IsPassed a.stage.input n → a.stage.session.torn ≡ false →
     b ≡ record a { stage = stage a.stage.session (drop n a.stage.input) } → HasTaken a b
-taken_passed {a} n passed torn is = subst (HasTaken a) (sym is)
+taken_passed {a} n passed torn is = rw is
     (taken_one a (record a { stage = stage a.stage.session (drop n a.stage.input) }) (Passed n)
     (passed, torn, refl) (sent_none a.told) (noted_none a.seat))
 
@@ -351,46 +310,20 @@ pub record RequestAnswered (a b : Observed) : Type 0 where
   pub in_front : RequestInFront a.stage n
   pub heard : HasAsked a.stage.session (take n a.stage.input) asked a.seat b.seat
 
-pub taken_reply : {a b : Observed} (x : RequestAnswered a b) → b.stage
-    ≡ stage (after_reply x.asked) (drop x.n a.stage.input)
-    → IsTold (can_reply x.asked) a.told x.asked.text b.told → HasTaken a b
+pub taken_reply : {a b : Observed} (x : RequestAnswered a b) → b.stage ≡ stage (after_reply x.asked)
+    (drop x.n a.stage.input) → IsTold (can_reply x.asked) a.told x.asked.text b.told → HasTaken a b
 taken_reply {a} {b} x is told =
     let message : List ℕ = take n a.stage.input in
     let long : length message ≡ n = length-take-le n a.stage.input in_front.first.2 in
-    taken_one a b (Answered message heard.outcome (reply_parts asked)) (record {
-      next = next_is a.stage n in_front;
-      answered = asked;
-      heard = heard.heard;
-      parts_are = refl;
-      new_is = is ∙ ap (λ k. stage (after_reply asked) (drop k a.stage.input)) (sym long);
-    }) (reply_sent asked a.told b.told told) heard.noted
+    taken_one a b (Answered message heard.outcome (reply_parts asked))
+    (search (arith, next_is a.stage n in_front, next_is)) (reply_sent asked a.told b.told told) heard.noted
   where
     open x use {asked, n, in_front, heard}
 
 pub lost_reply : {a b : Observed} (x : RequestAnswered a b) → can_reply x.asked ≡ true
     → b.stage ≡ stage (record x.asked { lost = true }) (drop x.n a.stage.input)
     → IsSentPrefix a.told b.told x.asked.text → HasLostReply a b
-lost_reply {a} x can is told =
-    let message : List ℕ = take n a.stage.input in
-    let long : length message ≡ n = length-take-le n a.stage.input in_front.first.2 in record {
-      mid = a;
-      taken = taken_none a;
-      lost = record {
-        message = message;
-        outcome = heard.outcome;
-        front = take told.0 asked.text;
-        fails = record {
-          next = next_is a.stage n in_front;
-          answered = asked;
-          heard = heard.heard;
-          can = can;
-          front_is = (told.0, (told.1.0, refl));
-          new_is = is ∙ ap (λ k. stage (record asked { lost = true }) (drop k a.stage.input)) (sym long);
-        };
-        sent = told.1.1;
-        noted = heard.noted;
-      };
-    }
+lost_reply {a} x can is told = search (arith, length-take-le n a.stage.input in_front.first.2, taken_none a)
   where
     open x use {asked, n, in_front, heard}
 

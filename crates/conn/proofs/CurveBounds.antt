@@ -11,16 +11,11 @@ use Rattle.film_run.specs.Laws.{IsSending}
 use Rattle.film_run.specs.Plans.{rest_sizes, timing_of}
 use Rattle.film_run.proofs.CurveLemmas.{low-at-slot, low-slots, up-at-slot}
 use Rattle.film_run.proofs.PlanLemmas.{sending-best, sending-keeps, sending-limits}
-use Rattle.wire_curve.specs.declared.film.Timing.{Timing}
 use Rattle.wire_curve.specs.FilmCurves.{slot_count, total_of, used_before}
 use Rattle.wire_curve.proofs.PictureSums.{sum_by-range-all, sum_by-range-le}
 use Rattle.wire_curve.proofs.SlotUsageLemmas.{used_before-all, used_before_rises}
 use Rattle.pacer.specs.PacerStates.{first_slots}
 use Rattle.conn.specs.Films.{IsBetween}
-
--- no more is used than there is
-used_most : (sizes : List ℕ) (timing : Timing) (t : ℕ) → used_before sizes timing t ≤ total_of sizes timing
-used_most sizes timing t = grind (arith, sum_by-range-le, sum_by-range-all sizes)
 
 -- by the end of any slot of a play, also one after its plan's last, what its plan has through it
 -- lies between the curves
@@ -40,12 +35,7 @@ planned_between {sizes} {playback} {run} {plan} {slot} is_plan sending count_is 
           good.above slot (omega (arith, slots, within)),
           low-at-slot rest timing slot within,
         );
-        below = omega (
-          arith,
-          count_is,
-          good.below slot (omega (arith, slots, within)),
-          up-at-slot rest timing slot within,
-        );
+        below = search (arith, up-at-slot);
       }
       | inr past ↦
           let keeps = sending-keeps sizes playback run plan sending in
@@ -53,7 +43,8 @@ planned_between {sizes} {playback} {run} {plan} {slot} is_plan sending count_is 
           let all : total_bytes plan ≡ sum_through plan slot = grind (arith, sum_through-past) in
           let whole = used_before-all rest timing limits.some_slot_units sending.plan_is.accepted.some_picture in
           let used = used_before_rises rest timing (slot_count rest timing) slot past in
-          let most = used_most rest timing (slot + 1) in
+          let most : used_before rest timing (slot + 1) ≤ total_of rest timing =
+          grind (arith, sum_by-range-le, sum_by-range-all rest) in
           record {
             above = omega (arith, count_is, all, keeps.bytes, most, limits.sent_of_total);
             below = omega (arith, count_is, all, keeps.bytes, whole, used);

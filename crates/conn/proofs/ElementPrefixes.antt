@@ -1,6 +1,5 @@
-use Rattle.std.proofs.Common.{arith}
 -- Lemmas on elements and on what was sent, one step after another.
-use Rattle.std.proofs.Common.{◌≡◌, ℕ, List, ◌++◌, drop, Ok, ap, sym, ◌∙◌, subst}
+use Rattle.std.proofs.Common.{arith, ◌≡◌, ℕ, List, ◌++◌, drop, Ok, sym, subst}
 use Rattle.interleave.specs.Streams.{AreInputElements, returned_length, returned_elements}
 use Rattle.interleave.specs.Elements.{IsFirst}
 use Rattle.interleave.specs.declared.elements.Step.{Step}
@@ -26,8 +25,4 @@ cuts_drop {input} step first dropped = record {
 
 -- bytes came after those that wait
 pub cuts_same : (old new : List ℕ) → new ≡ old → CutsOn old new
-cuts_same old new same = subst (CutsOn old) (sym same) (cuts_none old)
-
--- an element of the bytes that wait is dropped
-pub drop_is : {old mid new : List ℕ} (n : ℕ) → new ≡ drop n mid → mid ≡ old → new ≡ drop n old
-drop_is n dropped same = dropped ∙ ap (drop n) same
+cuts_same old new same = rw same (cuts_none old)

@@ -8,7 +8,7 @@ use Rattle.film_streams.specs.declared.setups.Setup.{Setup}
 use Rattle.session.specs.declared.states.State.TheVariants.{Playing}
 use Rattle.session.specs.SessionStates.{SessionState}
 use Rattle.conn.specs.Films.{HasSent}
-use Rattle.conn.specs.InputSteps.{HasHeard, Outcome, Stage}
+use Rattle.conn.specs.InputSteps.{Stage}
 
 -- a session's play goes on, and of its film these bytes were sent
 pub record PlayGoing (session : SessionState) : Type 0 where
@@ -17,19 +17,6 @@ pub record PlayGoing (session : SessionState) : Type 0 where
   pub film : List ℕ
   pub state : session.state ≡ Playing setup play
   pub sent : HasSent play session.heard film
-
--- a session after a slot in which it sends, after one in which it doesn't, and before them
-pub record SlotStandings : Type 0 where
-  pub sending : SessionState
-  pub still : SessionState
-  pub before : SessionState
-
--- the film's bytes in a slot: those before a waiting reply, those after it, and all where none
--- waits
-pub record SlotBytes : Type 0 where
-  pub before : List ℕ
-  pub rest : List ℕ
-  pub plain : List ℕ
 
 -- a play in a slot: its pacing after what stands around a waiting reply, after what stands before
 -- it, and where no reply waits
@@ -45,9 +32,3 @@ pub record RequestInFront (old : Stage) (n : ℕ) : Type 0 where
   pub first : IsFirst old.input (Ok (Request n))
   pub replied : old.session.waits ≡ false
   pub torn : old.session.torn ≡ false
-
--- a request that was received, and the station's answer to it
-pub record RequestHeard (old new : SessionState) : Type 0 where
-  pub message : List ℕ
-  pub outcome : Outcome
-  pub heard : HasHeard old message outcome new

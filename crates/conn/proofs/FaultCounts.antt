@@ -7,9 +7,6 @@ use Rattle.conn.specs.declared.reports.ConnEnd.{ConnEnd}
 use Rattle.conn.specs.declared.reports.ConnEnd.TheVariants.{LinkFault}
 use Rattle.conn.specs.Events.{HasCounted, IsEndOf, is_fault}
 
-pub risen_on : (a b c : ℕ) → a ≤ b → HasRisen b c → HasRisen a c
-risen_on a b c first risen = λ small. omega (arith, first, risen small)
-
 pub counted_same : (end : Option ConnEnd) (old new : ℕ) → old ≤ new → is_fault end ≡ false → HasCounted end old new
 counted_same end old new count none = record { count = count; fault = λ is. absurd (true≢false (sym is ∙ none)) }
 

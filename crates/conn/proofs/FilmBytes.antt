@@ -1,8 +1,8 @@
-use Rattle.std.proofs.lemmas.Grind.{common_steps}
 -- Lemmas on what is sent of a film, one slot after another: of a play that goes on, and of the rest of
 -- one that was halted, up to what the halt keeps.
+use Rattle.std.proofs.lemmas.Grind.{common_steps}
 use Rattle.std.proofs.Common.{◌≡◌, ℕ, ◌+◌, ◌-◌, ◌<◌, ◌≤◌, ◌++◌, Bool, true, false, if◌then◌else◌, min, max, List, []}
-use Rattle.std.proofs.Common.{length, take, drop, refl, ap, sym, ◌∙◌, subst, arith, inl, inr}
+use Rattle.std.proofs.Common.{length, take, drop, refl, ap, sym, ◌∙◌, arith, inl, inr}
 use Rattle.std.proofs.lemmas.Bool.{cases_lt, true≢false}
 use Rattle.std.proofs.lemmas.List.{append-nil}
 use Rattle.film_frames.specs.Tracks.{framed_bytes, IsBoundaryAfter}
@@ -61,7 +61,8 @@ sent_within p is = omega (arith, is.whole, is.most, is.due, is.sent)
 
 pub next_of_sent : (p : PacerState) → IsPacerState p
     → IsBoundaryAfter p.pieces (p.before + p.sent) (boundary_from p.pieces (p.before + p.sent))
-next_of_sent p is = boundary-from p.pieces (p.before + p.sent) (sent_within p is)
+next_of_sent p is =
+    boundary-from p.pieces (p.before + p.sent) (sent_within p is)
 
 -- and these are its bytes
 pub slot_bytes : (waits between : Bool) (slot : ℕ) (p : PacerState) → IsPacerState p →
@@ -73,26 +74,18 @@ pub slot_bytes : (waits between : Bool) (slot : ℕ) (p : PacerState) → IsPace
 slot_bytes false between slot p is between_is = refl
 slot_bytes true false slot p is between_is = search (append-nil, stop_inside)
 slot_bytes true true slot p is between_is =
-    let due : ℕ = due_by p slot in
     let mid : ℕ = step_end true (at_slot slot p) in
-    let end : step_end false (at_slot slot (after_step true slot p)) ≡ due = grind arith in
-    let next = next_of_sent p is in
-    let least : p.sent ≤ mid = omega (arith, next.after, is.sent) in
-    let most : mid ≤ due = omega arith in
+    let end : step_end false (at_slot slot (after_step true slot p)) ≡ due_by p slot = grind arith in
     ap (λ n. plan_bytes p p.sent mid ++ plan_bytes p mid n) end
-    ∙ between-join p.pieces (p.before + p.sent) (p.before + mid) (p.before + due) (omega (arith, least))
-    (omega (arith, most))
+    ∙ between-join p.pieces (p.before + p.sent) (p.before + mid) (p.before + due_by p slot)
+    (omega (arith, (next_of_sent p is).after, is.sent)) (omega arith)
 
 -- it is a pacing again, and so it is where less of what is due was sent
-sent_upto : (slot sent : ℕ) (p : PacerState) → IsPacerState p → sent ≤ due_by p slot
-    → IsPacerState (record (at_slot slot p) { sent = sent })
-sent_upto slot sent p is most = search due-of-both
-
 pub through_is : (slot : ℕ) (p : PacerState) → IsPacerState p → IsPacerState (sent_through slot p)
-through_is slot p is = sent_upto slot (due_by p slot) p is (omega arith)
+through_is slot p is = search (arith, due-of-both)
 
 pub stopped_is : (slot : ℕ) (p : PacerState) → IsPacerState p → IsPacerState (after_step true slot p)
-stopped_is slot p is = sent_upto slot (step_end true (at_slot slot p)) p is (omega arith)
+stopped_is slot p is = search (arith, due-of-both)
 
 -- the film bytes up to a slot, with those of the slot
 film_joined : {film : List ℕ} (waits : Bool) (slot : ℕ) (p : PacerState) → IsPacerState p
@@ -104,39 +97,13 @@ film_joined waits slot p is film_is = grind (arith, slot_bytes, between-join)
 film_through : {session : SessionState} (going : PlayGoing session) (slot : ℕ)
     → due_by going.play.pacer slot ≡ first_slots going.play.pacer.plan (slot + 1 - going.play.pacer.start)
     → going.film ++ slot_film session.waits slot going.play.pacer ≡ planned_bytes going.play.pacer slot
-film_through {session} going slot all_sent =
-    let p = going.play.pacer in
-    let has = going.sent in
-    let first : going.film ≡ bytes_between p.pieces p.before (p.before + p.sent) = grind arith in
-    film_joined session.waits slot p has.pacing first
-    ∙ ap (λ n. take n (drop p.before (framed_bytes p.pieces))) (omega (arith, all_sent))
+film_through {session} going slot all_sent = search (arith, film_joined)
 
 -- a play goes on by a slot, in which a reply waits or none
 pub sent_slot : {session : SessionState} (going : PlayGoing session) (slot : ℕ) → session.heard < slot →
     HasSent (record going.play { pacer = slot_pacing session.waits slot going.play.pacer }) slot
     (going.film ++ slot_film session.waits slot going.play.pacer)
-sent_slot {session} going slot later =
-    let play = going.play in
-    let p = play.pacer in
-    let has = going.sent in
-    let waits = session.waits in
-    let between : Bool = stands_at_boundary (after_step true slot p) in
-    let q : slot_pacing waits slot p ≡ sent_through slot p = slot_is waits between slot p has.pacing refl in
-    let passed : max p.passed (slots_by p slot) ≡ slot + 1 - play.start = omega (arith, has.passed, has.start, later) in
-    let due : due_by p slot ≡ first_slots p.plan (max p.passed (slots_by p slot)) =
-    grind (arith, due-of-both, most-slots) in
-    let all_sent : due_by p slot ≡ first_slots p.plan (slot + 1 - p.start) = grind arith in
-    subst (λ (r : PacerState). HasSent (record play { pacer = r }) slot (going.film ++ slot_film waits slot p)) (sym q)
-    (record {
-      pacing = through_is slot p has.pacing;
-      plan = has.plan;
-      before = has.before;
-      kept = has.kept;
-      start = has.start;
-      passed = passed;
-      sent = due;
-      film_is = film_through going slot all_sent;
-    })
+sent_slot {session} going slot later = search (arith, slot_is, most-slots, through_is, film_through)
 
 -- A pacing of which these bytes were sent by the latest slot: as many as the plan has through it,
 -- and none past what is kept, which ends at the first boundary at or after them.
@@ -152,18 +119,14 @@ pub halted_here : {play : Played} {heard : ℕ} {film : List ℕ} {keep : ℕ} �
     keep ≡ next_boundary play.pacer → IsHaltedPacing (record play.pacer { keep = keep }) heard film
 halted_here {play} {heard} {film} {keep} has keep_is =
     let p = play.pacer in
-    let is = has.pacing in
-    let next = next_of_sent p is in
+    let next = next_of_sent p has.pacing in
     let place : boundary_from p.pieces (p.before + p.sent) ≡ p.before + keep = omega (arith, keep_is, next.after) in
     let after : IsBoundaryAfter p.pieces (p.before + p.sent) (p.before + keep) = grind arith in
-    let most : p.before + keep ≤ p.before + p.keep = grind arith in
-    let all : p.sent ≡ first_slots p.plan p.passed = has.sent in
-    let sent : p.sent ≡ min (first_slots p.plan p.passed) keep = omega (arith, all, after.after) in
     let count : first_slots p.plan (heard + 1 - p.start) ≡ p.before + p.sent - p.before = grind arith in
     record {
       pacing = grind arith;
       passed = has.passed ∙ ap (λ s. heard + 1 - s) (sym has.start);
-      sent = sent;
+      sent = omega (arith, has.sent, after.after);
       film_is = has.film_is ∙ ap (λ n. take n (drop p.before (framed_bytes p.pieces))) count;
       ends = after;
     }
@@ -173,8 +136,6 @@ pub halted_on : {p : PacerState} {heard slot : ℕ} {film : List ℕ} (waits : B
     heard < slot → IsHaltedPacing (sent_through slot p) slot (film ++ slot_film waits slot p)
 halted_on {p} {heard} {slot} {film} waits has later =
     let due : due_by p slot ≡ min (first_slots p.plan (max p.passed (slots_by p slot))) p.keep = search due-of-both in
-    let before : p.sent ≤ due_by p slot = omega (arith, has.pacing.sent) in
-    let most : due_by p slot ≤ p.keep = omega (arith, due) in
     record {
       pacing = through_is slot p has.pacing;
       passed = omega (arith, has.passed, later);

@@ -1,6 +1,5 @@
-use Rattle.std.proofs.Common.{arith}
 -- What the answer to a halt leaves of a session.
-use Rattle.std.proofs.Common.{◌≡◌, ℕ}
+use Rattle.std.proofs.Common.{arith, ◌≡◌, ℕ}
 use Rattle.session.specs.RequestSteps.{after_halt}
 use Rattle.session.specs.SessionStates.{AwaitedAnswer, SessionState}
 use Rattle.conn.specs.InputSteps.{Outcome, IsFinished}

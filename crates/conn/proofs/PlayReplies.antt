@@ -1,19 +1,16 @@
-use Rattle.std.proofs.lemmas.Grind.{common_steps}
 -- A PLAY to which no refusal applies is answered by what the station made of it, as its turn at the
 -- station says.
-use Rattle.std.proofs.Common.{◌≡◌, ℕ, ◌-◌, List, take, refl, sym, ap, subst, ◌∙◌, inl, inr, arith}
+use Rattle.std.proofs.lemmas.Grind.{common_steps}
+use Rattle.std.proofs.Common.{◌≡◌, ℕ, ◌-◌, List, [], ◌∷◌, take, refl, sym, ap, subst, ◌∙◌, inl, inr, arith}
 use Rattle.std.specs.Fmt.{digits}
 use Rattle.rtsp_text.specs.Replies.{reply_front, reply_text, status_line}
 use Rattle.plan_cert.specs.declared.Segment.{Segment}
-use Rattle.slot_calendar.specs.Calendars.{HasRoom}
-use Rattle.slot_calendar.specs.Profiles.{capacity_at}
 use Rattle.slot_calendar.specs.declared.calendar.Overflow.{Overflow as Over}
 use Rattle.slot_calendar.proofs.FirstOverflow.{no-room, overflow-once}
 use Rattle.admission.specs.declared.entries.Answer.{Answer}
 use Rattle.admission.specs.declared.entries.Answer.TheVariants.{Admitted, Overflow}
-use Rattle.admission.specs.declared.entries.Command.{Command}
 use Rattle.admission.specs.declared.entries.Entry.{Entry}
-use Rattle.admission.specs.Histories.{IsLegal, booked_after, state_after}
+use Rattle.admission.specs.Histories.{IsLegal, state_after}
 use Rattle.admission.specs.Machine.{State as MachineState, IsAnswer}
 use Rattle.admission.specs.Makers.{PlacedEntry}
 use Rattle.station.specs.Ledgers.{play_of}
@@ -25,10 +22,9 @@ use Rattle.session.specs.Methods.{play_front}
 use Rattle.session.specs.SessionStates.{SessionState, sequence_of}
 use Rattle.session.proofs.RequestEffectLemmas.{hears_good, hears_ground, hears_state}
 use Rattle.conn.specs.InputSteps.{Outcome, Entered, HasHeard, IsAskAnswered}
-use Rattle.conn.specs.Films.{IsReady, ReportsOverflow}
-use Rattle.conn.specs.Admissions.{HasBegunPlay, HasTurn, IsDecided, IsEntryReplied, IsPlayCompleted, IsPlayReplied}
-use Rattle.conn.specs.Admissions.{start_at}
-use Rattle.conn.specs.Journals.{HasRoomAt, IsFullIn, StandsIn, Terms, entries_needed}
+use Rattle.conn.specs.Films.{ReportsOverflow}
+use Rattle.conn.specs.Admissions.{HasTurn, IsDecided, IsEntryReplied, IsPlayCompleted, IsPlayReplied}
+use Rattle.conn.specs.Journals.{AgreeWith, HasRoomAt, IsFullIn, StandsIn, Terms}
 use Rattle.conn.proofs.PlayStart.{play_begins}
 use Rattle.conn.proofs.StationAnswers.{AnswersAs, answers_as, NoneAsked, PlayAdmitted, PlayOverflowed, PlayFull}
 
@@ -57,12 +53,7 @@ asked_replied : {old asking new : SessionState} {outcome : Outcome} (play : Asks
     → AnswersAs asking (AskPlay (plan_of play)) outcome new → IsPlayReplied old outcome new
 asked_replied {old} {asking} {new} play (PlayAdmitted {placed = placed} {start = start} entry answered) =
     let is = play.asked in
-    let begun = play_begins asking placed (record {
-      setup = is.setup;
-      prepared = _;
-      ready = subst (IsReady is.setup) (sym (play.same ∙ is.ready)) refl;
-      awaits = is.awaited;
-    }) answered in
+    let begun = play_begins asking placed (search arith) answered in
     let text = ap (λ (t : List ℕ). started_text t (start - asking.heard)) is.text in
     subst (λ a. IsEntryReplied old placed a new) (sym entry.answer_is) (record {
       ok = subst (HasCode 200) (sym text) (front_ok old asking is (start - asking.heard));
@@ -80,9 +71,10 @@ asked_replied {old} {asking} {new} play (PlayAdmitted {placed = placed} {start =
 asked_replied {old} {asking} {new} play (PlayOverflowed {placed = placed} entry) = grind arith
 asked_replied {asking = asking} play (PlayFull two) = (sequence_of asking.awaited, refl)
 
-lacks_replied : {asking new : SessionState} {outcome : Outcome} (old : SessionState) → HasCode 500 asking.text
-    → AnswersAs asking AskReply outcome new → IsPlayReplied old outcome new
-lacks_replied old code NoneAsked = code
+-- where memory was wanting the station isn't asked
+lacks_both : {asking new : SessionState} {outcome : Outcome} (old : SessionState) → HasCode 500 asking.text
+    → AnswersAs asking AskReply outcome new → IsPlayReplied old outcome new × IsPlayCompleted old outcome new
+lacks_both old code NoneAsked = (code, λ terms journal from legal agree. inr (refl, code))
 
 -- a legal journal, from a place on
 record LegalJournal : Type 0 where
@@ -91,37 +83,27 @@ record LegalJournal : Type 0 where
   from : ℕ
   legal : IsLegal terms.steps journal
 
--- the entry of a play stands in it
-record EntryStands {old asking : SessionState} (play : AsksPlay old asking) : Type 0 where
-  j : LegalJournal
-  placed : PlacedEntry
-  stands : StandsIn j.terms j.journal j.from placed
-  command : placed.entry.command ≡ play_of asking.heard (plan_of play)
-
 -- the turn of a play that was entered: the machine's answer in the state after the entries before it
-entry_turn : {old asking new : SessionState} (play : AsksPlay old asking) (e : EntryStands play)
-    → IsPlayReplied old (Entered e.placed) new → HasTurn e.j.terms e.j.journal e.j.from old new
-entry_turn {old} {asking} {new} play e replied = record {
+entry_turn : {old asking new : SessionState} {placed : PlacedEntry} (play : AsksPlay old asking) (j : LegalJournal)
+    → StandsIn j.terms j.journal j.from placed → placed.entry.command ≡ play_of asking.heard (plan_of play)
+    → IsPlayReplied old (Entered placed) new → HasTurn j.terms j.journal j.from old new
+entry_turn {old} {asking} {new} {placed} play j stands command replied = record {
   asking = asking;
   asked = play.asked;
   turn = placed.place;
   after = stands.after;
   within = omega (arith, stands.within);
   decided = by-answer placed.entry.answer
-      (subst (λ (c : Command). IsAnswer terms.steps state c placed.entry.answer) asks
-      (subst (λ (e : Entry). IsAnswer terms.steps state e.command e.answer) (stands.entry placed.entry)
-      (legal.each placed.place placed.entry stands.within))) replied;
+      (rw (stands.entry placed.entry, asks) at (legal.each placed.place placed.entry stands.within)) replied;
 }
   where
-    open e use {j, placed, stands, command}
     open j use {terms, journal, legal}
 
     asks : placed.entry.command ≡ play_of old.heard (plan_of play)
     asks = command ∙ ap (λ h. play_of h (plan_of play)) play.heard
 
     room : HasRoomAt terms journal placed.place 2
-    room = let needed : entries_needed placed.entry.command ≡ 2 = ap entries_needed asks in
-        omega (arith, stands.room, needed)
+    room = search arith
 
     state : MachineState
     state = state_after (take placed.place journal)
@@ -129,14 +111,10 @@ entry_turn {old} {asking} {new} play e replied = record {
     by-answer : (answer : Answer) → IsAnswer terms.steps state (play_of old.heard (plan_of play)) answer
         → IsEntryReplied old placed answer new → IsDecided terms journal old (plan_of play) placed.place new
     by-answer (Admitted start) is replied =
-        let fits : HasRoom 0 (booked_after (take placed.place journal)) (capacity_at terms.steps)
-        (start_at journal placed.place old.heard) (plan_of play) =
-        subst (λ s. HasRoom 0 (booked_after (take placed.place journal)) (capacity_at terms.steps) s (plan_of play))
-        is.0
-        is.1 in record {
+        record {
           full = λ no. absurd (omega (arith, no, room));
-          over = λ has over first. absurd (no-room first fits);
-          admitted = λ has all. (placed, subst (λ s. HasBegunPlay old placed s new) is.0 replied);
+          over = λ has over first. absurd (no-room first (rw is.0 at is.1));
+          admitted = λ has all. (placed, rw is.0 at replied);
         }
     by-answer (Overflow slot bytes asked) is replied =
         let found : Over = record { slot = slot; booked = bytes; asked = asked } in record {
@@ -151,101 +129,57 @@ entry_turn {old} {asking} {new} play e replied = record {
         }
     by-answer _ is replied = absurd is
 
--- a journal that is full, as its two numbers say
-record FullJournal : Type 0 where
-  j : LegalJournal
-  entries : ℕ
-  live : ℕ
-  full : IsFullIn j.terms.limit j.journal j.from 2 entries live
+-- the turn of one for which the journal is full, as its two numbers say
+full_turn : {old asking new : SessionState} {entries live : ℕ} (play : AsksPlay old asking) (j : LegalJournal)
+    → IsFullIn j.terms.limit j.journal j.from 2 entries live
+    → ((sequence : ℕ) × (new.text ≡ full_text sequence entries live)) → HasTurn j.terms j.journal j.from old new
+full_turn {asking = asking} {entries = entries} play j full replied = record {
+  asking = asking;
+  asked = play.asked;
+  turn = entries;
+  after = full.after;
+  within = full.within;
+  decided = grind (arith, common_steps);
+}
 
-full_turn : {old asking new : SessionState} (play : AsksPlay old asking) (f : FullJournal)
-    → ((sequence : ℕ) × (new.text ≡ full_text sequence f.entries f.live))
-    → HasTurn f.j.terms f.j.journal f.j.from old new
-full_turn {asking = asking} {new} play f replied =
-    record {
-      asking = asking;
-      asked = play.asked;
-      turn = entries;
-      after = full.after;
-      within = full.within;
-      decided = grind (arith, common_steps);
-    }
-  where
-    open f use {j, entries, full}
-    open j use {terms, journal}
-
--- the entry of a play that was asked for
-record AskedEntry {old asking : SessionState} (play : AsksPlay old asking) : Type 0 where
-  placed : PlacedEntry
-  command : placed.entry.command ≡ play_of asking.heard (plan_of play)
-
-entry_completed : {old asking new : SessionState} (play : AsksPlay old asking) (e : AskedEntry play)
-    → IsPlayReplied old (Entered e.placed) new → IsPlayCompleted old (Entered e.placed) new
-entry_completed play e replied = λ terms journal from legal agree.
-    inl (entry_turn play (record {
-      j = record { terms = terms; journal = journal; from = from; legal = legal };
-      placed = e.placed;
-      stands = agree.0;
-      command = e.command;
-    }) replied)
-
-asked_completed : {old asking new : SessionState} {outcome : Outcome} (play : AsksPlay old asking)
-    → AnswersAs asking (AskPlay (plan_of play)) outcome new → IsPlayReplied old outcome new
-    → IsPlayCompleted old outcome new
-asked_completed play (PlayAdmitted {placed = placed} entry answered) replied =
-    entry_completed play (record { placed = placed; command = entry.command }) replied
-asked_completed play (PlayOverflowed {placed = placed} entry) replied =
-    entry_completed play (record { placed = placed; command = entry.command }) replied
-asked_completed play (PlayFull {entries = entries} {live} two) replied = λ terms journal from legal agree.
-    inl (full_turn play (record {
-      j = record { terms = terms; journal = journal; from = from; legal = legal };
-      entries = entries;
-      live = live;
-      full = subst (λ more. IsFullIn terms.limit journal from more entries live) two agree.0;
-    }) replied)
-
--- where memory was wanting the station isn't asked
-lacks_completed : {old asking new : SessionState} {outcome : Outcome} → AnswersAs asking AskReply outcome new
-    → IsPlayReplied old outcome new → IsPlayCompleted old outcome new
-lacks_completed NoneAsked replied = λ terms journal from legal agree. inr (refl, replied)
+asked_turn : {old asking new : SessionState} {outcome : Outcome} (play : AsksPlay old asking) (j : LegalJournal)
+    → AnswersAs asking (AskPlay (plan_of play)) outcome new → AgreeWith j.terms j.journal j.from (outcome ∷ [])
+    → IsPlayReplied old outcome new → HasTurn j.terms j.journal j.from old new
+asked_turn play j (PlayAdmitted entry answered) agree replied = entry_turn play j agree.0 entry.command replied
+asked_turn play j (PlayOverflowed entry) agree replied = entry_turn play j agree.0 entry.command replied
+asked_turn play j (PlayFull two) agree replied = full_turn play j (rw two at agree.0) replied
 
 -- a PLAY to which no refusal applies asks for a play, or finds no memory
-data PlayHeard (old : SessionState) (outcome : Outcome) (new : SessionState) : Type 0 where
-  Asked : {asking : SessionState} (play : AsksPlay old asking) → AnswersAs asking (AskPlay (plan_of play)) outcome new
-      → PlayHeard old outcome new
-  Lacked : {asking : SessionState} → HasCode 500 asking.text → AnswersAs asking AskReply outcome new
-      → PlayHeard old outcome new
-
-play_heard : {old new : SessionState} {message : List ℕ} {outcome : Outcome} → CanBePlayed old message
-    → HasHeard old message outcome new → PlayHeard old outcome new
-play_heard {old} {new} {message} {outcome} can heard =
+heard_both : {old new : SessionState} {message : List ℕ} {outcome : Outcome} → CanBePlayed old message
+    → HasHeard old message outcome new → IsPlayReplied old outcome new × IsPlayCompleted old outcome new
+heard_both {old} {new} {message} {outcome} can heard =
     let asking = heard.asking in
     let changes = hears_state old asking message heard.ask heard.hears in
     let answers : AnswersAs asking heard.ask outcome new = answers_as heard.ask outcome heard.answered in
     elim (hears_good old asking message heard.ask heard.hears can) [
-      | inl asks ↦ Asked (record {
-        asked = asks.play;
-        same = (subst (λ a. ChangesState a old asking) asks.command changes).0;
-        heard = (hears_ground old asking message heard.ask heard.hears).heard;
-      }) (subst (λ a. AnswersAs asking a outcome new) asks.command answers)
-      | inr lacks ↦ Lacked (memory_code old heard.ask asking lacks)
-          (subst (λ a. AnswersAs asking a outcome new) lacks.refused.0 answers)
+      | inl asks ↦
+          let play : AsksPlay old asking = record {
+            asked = asks.play;
+            same = (subst (λ a. ChangesState a old asking) asks.command changes).0;
+            heard = (hears_ground old asking message heard.ask heard.hears).heard;
+          } in
+          let its : AnswersAs asking (AskPlay (plan_of play)) outcome new = rw asks.command at answers in
+          let replied : IsPlayReplied old outcome new = asked_replied play its in (
+            replied,
+            λ terms journal from legal agree.
+                inl (asked_turn play
+                (record { terms = terms; journal = journal; from = from; legal = legal }) its agree replied),
+          )
+      | inr lacks ↦ lacks_both old (memory_code old heard.ask asking lacks) (rw lacks.refused.0 at answers)
     ]
-
-heard_both : {old new : SessionState} {outcome : Outcome} → PlayHeard old outcome new
-    → IsPlayReplied old outcome new × IsPlayCompleted old outcome new
-heard_both (Asked play answers) = let replied = asked_replied play answers in
-    (replied, asked_completed play answers replied)
-heard_both {old} (Lacked code answers) = let replied = lacks_replied old code answers in
-    (replied, lacks_completed answers replied)
 
 pub play_answered : (old new : SessionState) (message : List ℕ) (outcome : Outcome) → CanBePlayed old message →
     HasHeard old message outcome new → IsPlayReplied old outcome new
-play_answered old new message outcome can heard = (heard_both (play_heard can heard)).0
+play_answered old new message outcome can heard = (heard_both can heard).0
 
 pub play_completed : (old new : SessionState) (message : List ℕ) (outcome : Outcome) → CanBePlayed old message →
     HasHeard old message outcome new → IsPlayCompleted old outcome new
-play_completed old new message outcome can heard = (heard_both (play_heard can heard)).1
+play_completed old new message outcome can heard = (heard_both can heard).1
 
 pub overflow_told : {old new : SessionState} {plan : List Segment} {placed : PlacedEntry} {over : Over} →
     IsAskAnswered old (AskPlay plan) (Entered placed) new →

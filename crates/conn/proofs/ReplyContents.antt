@@ -1,21 +1,21 @@
-use Rattle.std.proofs.lemmas.Grind.{common_steps}
 -- What the replies of a connection say about the station's answers.
-use Rattle.std.proofs.Common.{◌≡◌, ℕ, ◌-◌, ◌++◌, Bool, Contains, List, [], ◌∷◌}
-use Rattle.std.proofs.Common.{codes, decimal, get_or, refl, sym, ap, subst, arith}
+use Rattle.std.proofs.lemmas.Grind.{common_steps}
+use Rattle.std.proofs.Common.{◌≡◌, ℕ, ◌-◌, ◌++◌, Contains, List, [], ◌∷◌, get_or, refl, sym, ap, subst, arith, length}
+use Rattle.conn.specs.Observations.{HasCourse, Observed}
 use Rattle.std.proofs.lemmas.List.{append_assoc}
-use Rattle.std.proofs.lemmas.List.Elements.{Contains-append_left, Contains-push}
+use Rattle.std.proofs.lemmas.List.Elements.{Contains-append_left, Contains-append_right, Contains-push}
 use Rattle.std.specs.Fmt.{digits}
-use Rattle.rtsp_text.specs.Replies.{field_line, reply_front, reply_text, status_line}
+use Rattle.rtsp_text.specs.Replies.{reply_front, reply_text, status_line}
 use Rattle.admission.specs.declared.entries.Answer.TheVariants.{Overflow}
 use Rattle.admission.specs.Makers.{PlacedEntry}
 use Rattle.slot_calendar.specs.declared.calendar.Overflow.{Overflow as Over}
 use Rattle.session.specs.declared.commands.Ask.{Ask}
 use Rattle.session.specs.RequestEffects.{HasCode, IsNoRefusal, RefusesNone}
-use Rattle.rtsp_replies.specs.Replies.{started_text, field, full_text, overflow_text}
-use Rattle.session.specs.SlotSteps.{can_reply, after_slot}
+use Rattle.rtsp_replies.specs.Replies.{full_text, overflow_text}
+use Rattle.session.specs.SlotSteps.{after_slot}
 use Rattle.session.specs.SessionStates.{AwaitedAnswer, SessionState}
-use Rattle.conn.specs.InputSteps.{Outcome, Entered, WasFull, SentPart, Film, Text, Stage, ElementStep, Passed}
-use Rattle.conn.specs.InputSteps.{Answered, HasHeard, TakesAll, slot_parts}
+use Rattle.conn.specs.InputSteps.{Outcome, Entered, WasFull, SentPart, Film, Text, Stage, ElementStep, Passed, Answered}
+use Rattle.conn.specs.InputSteps.{HasHeard, TakesAll, slot_parts}
 use Rattle.conn.specs.EventSteps.{Ending, Ends, AtElement, InReply, Round, Runs, RunsAll, ending_outcomes}
 use Rattle.conn.specs.EventSteps.{round_outcomes, rounds_outcomes, takings_outcomes}
 use Rattle.conn.specs.Films.{round_parts, rounds_parts, takings_parts}
@@ -24,9 +24,8 @@ use Rattle.conn.specs.declared.reports.ConnEnd.{ConnEnd}
 use Rattle.session.proofs.ReplyCodeLemmas.{hears_text, ok_plain}
 use Rattle.conn.specs.Guarantees.{ReportsFullOf}
 use Rattle.conn.proofs.JoinedLists.{joined-append}
-use Rattle.conn.proofs.StationAnswers.{AnswersAs, ComesAs, FinishesAs, answers_as, comes_as, NoneAsked, PlayAdmitted}
-use Rattle.conn.proofs.StationAnswers.{PlayOverflowed, PlayFull, PlayHalted, LookMade, LookFull, OfferMade}
-use Rattle.conn.proofs.StationAnswers.{BytesCame, SlotCame}
+use Rattle.conn.proofs.StationAnswers.{AnswersAs, ComesAs, FinishesAs, answers_as, comes_as, PlayAdmitted}
+use Rattle.conn.proofs.StationAnswers.{PlayOverflowed, PlayFull, LookMade, LookFull, OfferMade, BytesCame, SlotCame}
 
 -- three digits differ where the first does
 other : {a x : ℕ} {more rest : List ℕ} → (a ≡ x → ⊥) → (a ∷ more) ≡ (x ∷ rest) → ⊥
@@ -62,20 +61,6 @@ AreReported made (Text text ∷ parts) = IsTold made text × AreReported made pa
 told_plain : (made : List Outcome) (text : List ℕ) → IsNoRefusal text → IsTold made text
 told_plain made text plain = grind arith
 
--- with more answers
-told_with_more : (made more : List Outcome) (text : List ℕ) → IsTold made text → IsTold (made ++ more) text
-told_with_more made more text told = record {
-  overflow = λ is.
-      let its = told.overflow is in (its.0, Contains-append_left made more (Entered its.0.placed) its.1);
-  full = grind (arith, common_steps);
-}
-
-are_more : (made more : List Outcome) (parts : List SentPart) → AreReported made parts → AreReported (made ++ more)
-    parts
-are_more made more [] told = tt
-are_more made more (Film bytes ∷ parts) told = are_more made more parts told
-are_more made more (Text text ∷ parts) told = (told_with_more made more text told.0, are_more made more parts told.1)
-
 are_both : (made : List Outcome) (xs ys : List SentPart) → AreReported made xs → AreReported made ys → AreReported made
     (xs ++ ys)
 are_both made [] ys first second = second
@@ -83,81 +68,80 @@ are_both made (Film bytes ∷ xs) ys first second = are_both made xs ys first se
 are_both made (Text text ∷ xs) ys first second = (first.0, are_both made xs ys first.1 second)
 
 -- what the station answers is reported
-told_overflow : (made : List Outcome) (placed : PlacedEntry) (over : Over) (sequence : ℕ) →
-    placed.entry.answer ≡ Overflow over.slot over.booked over.asked →
-    IsTold (made ++ Entered placed ∷ []) (overflow_text sequence over.slot over.booked over.asked)
-told_overflow made placed over sequence answer = record {
+told_overflow : {made : List Outcome} (placed : PlacedEntry) (over : Over) (sequence : ℕ)
+    → placed.entry.answer ≡ Overflow over.slot over.booked over.asked → Contains made (Entered placed)
+    → IsTold made (overflow_text sequence over.slot over.booked over.asked)
+told_overflow placed over sequence answer among = record {
   overflow = λ is. (
     record { placed = placed; over = over; answer = answer; sequence = sequence; text_is = refl },
-    Contains-push made (Entered placed),
+    among,
   );
   full = λ is. absurd (overflow_not_full sequence over.slot over.booked over.asked is);
 }
 
-told_full : (made : List Outcome) (more entries live sequence : ℕ)
-    → IsTold (made ++ WasFull more entries live ∷ []) (full_text sequence entries live)
-told_full made more entries live sequence = record {
+told_full : {made : List Outcome} {more : ℕ} (entries live sequence : ℕ) → Contains made (WasFull more entries live)
+    → IsTold made (full_text sequence entries live)
+told_full {more = more} entries live sequence among = record {
   overflow = λ is. absurd (full_not_overflow sequence entries live is);
   full = λ is. record {
     more = more;
     entries = entries;
     live = live;
-    full = Contains-push made (WasFull more entries live);
+    full = among;
     sequence = sequence;
     text_is = refl;
   };
 }
 
 -- what the station answers to a session whose own text states no refusal
-heard_told : {old new : SessionState} {message : List ℕ} {outcome : Outcome} (made : List Outcome)
-    → HasHeard old message outcome new → IsTold (made ++ outcome ∷ []) new.text
-heard_told {old} {message = message} made heard =
-    by-answer (hears_text old asking message heard.ask heard.hears) (answers_as heard.ask _ heard.answered)
+heard_told : {old new : SessionState} {message : List ℕ} {outcome : Outcome} {made : List Outcome}
+    → Contains made outcome → HasHeard old message outcome new → IsTold made new.text
+heard_told {old} {message = message} {made = made} among heard =
+    by-answer (hears_text old asking message heard.ask heard.hears) (answers_as heard.ask _ heard.answered) among
   where
     open heard use {asking}
 
     by-answer : {ask : Ask} {outcome : Outcome} {new : SessionState} → RefusesNone ask asking
-        → AnswersAs asking ask outcome new → IsTold (made ++ outcome ∷ []) new.text
-    by-answer plain (PlayAdmitted {start = start} entry answered) =
-        let rest : List ℕ = field_line (field (codes "x-Start") (decimal (start - asking.heard))) in
-        told_plain _ (started_text asking.text (start - asking.heard))
-        (subst IsNoRefusal (sym (append_assoc asking.text rest (codes "\r\n"))) (plain (rest ++ codes "\r\n")))
-    by-answer plain (PlayOverflowed {placed = placed} {slot} {booked} {asked} entry) =
-        told_overflow made placed (record { slot = slot; booked = booked; asked = asked }) _ entry.answer_is
-    by-answer plain (PlayFull {more = more} {entries} {live} two) = told_full made more entries live _
-    by-answer plain (LookFull {more = more} {entries} {live}) = told_full made more entries live _
-    by-answer plain (LookMade is) = told_plain _ _ (ok_plain _ _ _)
-    by-answer plain OfferMade = told_plain _ _ (ok_plain _ _ _)
-    by-answer plain NoneAsked = told_plain _ asking.text plain
-    by-answer plain (PlayHalted entry) = told_plain _ asking.text plain
+        → AnswersAs asking ask outcome new → Contains made outcome → IsTold made new.text
+    by-answer plain (PlayAdmitted {start = start} entry answered) among = search (arith, append_assoc)
+    by-answer plain (PlayOverflowed {placed = placed} {slot} {booked} {asked} entry) among =
+        told_overflow placed (record { slot = slot; booked = booked; asked = asked }) _ entry.answer_is among
+    by-answer plain (PlayFull two) among = told_full _ _ _ among
+    by-answer plain LookFull among = told_full _ _ _ among
+    by-answer plain (LookMade is) among = told_plain _ _ (ok_plain _ _ _)
+    by-answer plain OfferMade among = told_plain _ _ (ok_plain _ _ _)
+    by-answer plain _ among = told_plain _ asking.text plain
+
+-- each of these answers is among them
+abbrev AreAmong : List Outcome → List Outcome → Type 0
+AreAmong made more = (outcome : Outcome) → Contains more outcome → Contains made outcome
+
+among_first : (made xs ys : List Outcome) → AreAmong made (xs ++ ys) → AreAmong made xs
+among_first made xs ys all x within = all x (Contains-append_left xs ys x within)
+
+among_rest : (made xs ys : List Outcome) → AreAmong made (xs ++ ys) → AreAmong made ys
+among_rest made xs ys all x within = all x (Contains-append_right xs ys x within)
 
 -- elements: what was sent shows it, and so does the reply that waits
 record Tells (made : List Outcome) (s : SessionState) (parts : List SentPart) : Type 0 where
   waiting : IsTold made s.text
   sent : AreReported made parts
 
-takings_tell : (made : List Outcome) (old new : Stage) (takings : List ElementStep) → IsTold made old.session.text
-    → TakesAll old takings new → Tells (made ++ takings_outcomes takings) new.session (takings_parts takings)
-takings_tell made old new [] told takes = grind (arith, common_steps)
-takings_tell made old new (Passed n ∷ takings) told takes =
-    takings_tell made takes.0 new takings
-    (subst (λ (s : Stage). IsTold made s.session.text) (sym takes.1.0.2) told) takes.1.1
-takings_tell made old new (Answered message outcome parts ∷ takings) told takes =
-    let made' : List Outcome = made ++ outcome ∷ [] in
+takings_tell : (made : List Outcome) (old new : Stage) (takings : List ElementStep)
+    → AreAmong made (takings_outcomes takings) → IsTold made old.session.text → TakesAll old takings new
+    → Tells made new.session (takings_parts takings)
+takings_tell made old new [] all told takes = grind (arith, common_steps)
+takings_tell made old new (Passed n ∷ takings) all told takes =
+    takings_tell made takes.0 new takings all (rw takes.1.0.2 told) takes.1.1
+takings_tell made old new (Answered message outcome parts ∷ takings) all told takes =
     let taken = takes.1.0 in
-    let goes : Bool = can_reply taken.answered in
-    let heard : IsTold made' taken.answered.text = heard_told made taken.heard in
+    let among = among_first made (outcome ∷ []) (takings_outcomes takings) all outcome (Contains-push [] outcome) in
+    let heard : IsTold made taken.answered.text = heard_told among taken.heard in
     let text : takes.0.session.text ≡ taken.answered.text = grind arith in
-    let first : Tells made' takes.0.session parts = grind arith in
-    let rest = takings_tell (made ++ outcome ∷ []) takes.0 new takings first.waiting takes.1.1 in
-    let all : (made ++ outcome ∷ []) ++ takings_outcomes takings ≡ made ++ outcome ∷ takings_outcomes takings =
-    append_assoc made (outcome ∷ []) (takings_outcomes takings) in
-    subst (λ m. Tells m new.session (parts ++ takings_parts takings)) all
-    (record {
-      waiting = rest.waiting;
-      sent = are_both ((made ++ outcome ∷ []) ++ takings_outcomes takings) parts (takings_parts takings)
-          (are_more (made ++ outcome ∷ []) (takings_outcomes takings) parts first.sent) rest.sent;
-    })
+    let first : Tells made takes.0.session parts = grind arith in
+    let rest = takings_tell made takes.0 new takings (among_rest made (outcome ∷ []) (takings_outcomes takings) all)
+    first.waiting takes.1.1 in
+    record { waiting = rest.waiting; sent = are_both made parts (takings_parts takings) first.sent rest.sent }
 
 -- a slot leaves the reply, and sends it or not
 slot_text : (old : SessionState) (slot : ℕ) → (after_slot old slot).text ≡ old.text
@@ -178,35 +162,30 @@ comes_tells {made} {old} told (SlotCame {slot = slot} finishes) =
     grind (arith, finished_text finishes, slot_text old.session slot, slot_tells made old.session slot told)
 
 -- a round, and rounds
-round_tells : (made : List Outcome) (old new : Stage) (round : Round) → IsTold made old.session.text
-    → Runs old round new → Tells (made ++ round_outcomes round) new.session (round_parts round)
-round_tells made old new round told runs =
+round_tells : (made : List Outcome) (old new : Stage) (round : Round) → AreAmong made (round_outcomes round)
+    → IsTold made old.session.text → Runs old round new → Tells made new.session (round_parts round)
+round_tells made old new round all told runs =
     let first = comes_tells told (comes_as round runs.comes) in
-    let opened : IsTold (made ++ round.halt ∷ []) runs.opened.session.text = search told_with_more in
-    let rest = takings_tell (made ++ round.halt ∷ []) runs.opened new round.takings opened runs.takes in
-    let all : (made ++ round.halt ∷ []) ++ takings_outcomes round.takings ≡ made ++ round_outcomes round =
-    append_assoc made (round.halt ∷ []) (takings_outcomes round.takings) in
+    let rest = takings_tell made runs.opened new round.takings
+    (among_rest made (round.halt ∷ []) (takings_outcomes round.takings) all) first.waiting runs.takes in
     record {
-      waiting = subst (λ m. IsTold m new.session.text) all rest.waiting;
-      sent = are_both (made ++ round_outcomes round) round.due (takings_parts round.takings)
-          (are_more made (round_outcomes round) round.due first.sent)
-          (subst (λ m. AreReported m (takings_parts round.takings)) all rest.sent);
+      waiting = rest.waiting;
+      sent = are_both made round.due (takings_parts round.takings) first.sent rest.sent;
     }
 
-rounds_tell : (made : List Outcome) (old new : Stage) (rounds : List Round) → IsTold made old.session.text
-    → RunsAll old rounds new → Tells (made ++ rounds_outcomes rounds) new.session (rounds_parts rounds)
-rounds_tell made old new [] told runs = grind (arith, common_steps)
-rounds_tell made old new (round ∷ rounds) told runs =
-    let first = round_tells made old runs.0 round told runs.1.0 in
-    let rest = rounds_tell (made ++ round_outcomes round) runs.0 new rounds first.waiting runs.1.2 in
-    let all : (made ++ round_outcomes round) ++ rounds_outcomes rounds
-    ≡ made ++ (round_outcomes round ++ rounds_outcomes rounds) =
-    append_assoc made (round_outcomes round) (rounds_outcomes rounds) in
-    subst (λ m. Tells m new.session (round_parts round ++ rounds_parts rounds)) all
-    (record {
+rounds_tell : (made : List Outcome) (old new : Stage) (rounds : List Round) → AreAmong made (rounds_outcomes rounds)
+    → IsTold made old.session.text → RunsAll old rounds new → Tells made new.session (rounds_parts rounds)
+rounds_tell made old new [] all told runs = grind (arith, common_steps)
+rounds_tell made old new (round ∷ rounds) all told runs =
+    let first = round_tells made old runs.0 round
+    (among_first made (round_outcomes round) (rounds_outcomes rounds) all) told
+    runs.1.0 in
+    let rest = rounds_tell made runs.0 new rounds (among_rest made (round_outcomes round) (rounds_outcomes rounds) all)
+    first.waiting runs.1.2 in
+    record {
       waiting = rest.waiting;
-      sent = search (are_both, are_more);
-    })
+      sent = are_both made (round_parts round) (rounds_parts rounds) first.sent rest.sent;
+    }
 
 -- how a connection ended, from a stage on and after so many events
 pub record CourseEnd (old : Stage) (ending : Ending) : Type 0 where
@@ -216,49 +195,37 @@ pub record CourseEnd (old : Stage) (ending : Ending) : Type 0 where
   pub ends : Ends old count ending end new
 
 -- the last round
-ending_tells : {made : List Outcome} {old : Stage} (ending : Ending) → IsTold made old.session.text →
-    CourseEnd old ending → AreReported (made ++ ending_outcomes ending) (rounds_parts (ending_rounds ending))
-ending_tells {made} {old} (AtElement round) told ended =
-    are_both (made ++ round_outcomes round) (round_parts round) []
-    (round_tells made old ended.new round told ended.ends.0).sent tt
-ending_tells {made} {old} (InReply round message outcome front) told ended =
-    grind (
-      arith,
-      round_tells made old ended.ends.1.mid round told ended.ends.1.runs,
-      append_assoc made (round_outcomes round) (outcome ∷ []),
-      are_more,
-      are_both (made ++ round_outcomes round) (round_parts round),
-    )
-ending_tells _ told ended = tt
+ending_tells : {made : List Outcome} {old : Stage} (ending : Ending) → AreAmong made (ending_outcomes ending)
+    → IsTold made old.session.text → CourseEnd old ending → AreReported made (rounds_parts (ending_rounds ending))
+ending_tells {made} {old} (AtElement round) all told ended =
+    are_both made (round_parts round) [] (round_tells made old ended.new round all told ended.ends.0).sent tt
+ending_tells {made} {old} (InReply round message outcome front) all told ended =
+    let among = among_first made (round_outcomes round) (outcome ∷ []) all in
+    are_both made (round_parts round) []
+    (round_tells made old ended.ends.1.mid round among told ended.ends.1.runs).sent tt
+ending_tells _ all told ended = tt
 
 pub parts-more : (rounds more : List Round) → rounds_parts (rounds ++ more) ≡ rounds_parts rounds ++ rounds_parts more
-parts-more = joined-append (record { part = round_parts; all = rounds_parts; none = refl; one = λ x xs. refl })
+parts-more = joined-append round_parts rounds_parts refl (λ x xs. refl)
 
 no_digits : (a b c : ℕ) → [] ≡ a ∷ b ∷ c ∷ [] → ⊥
 no_digits a b c same = cc
 
-nothing_told : IsTold [] []
+nothing_told : {made : List Outcome} → IsTold made []
 unfolding digits
 nothing_told = record { overflow = λ is. absurd (no_digits 52 53 51 is); full = λ is. absurd (no_digits 53 48 51 is) }
 
 -- an entire course, from a session without a text
-pub record EntireCourse (old : Stage) : Type 0 where
-  pub none : old.session.text ≡ []
-  pub mid : Stage
-  pub rounds : List Round
-  pub runs : RunsAll old rounds mid
-  pub ending : Ending
-  pub ended : CourseEnd mid ending
-
-pub course_tells : {old : Stage} (c : EntireCourse old)
+pub course_tells : {end : ConnEnd} {old new : Observed} → old.stage.session.text ≡ [] → (c : HasCourse end old new)
     → AreReported (rounds_outcomes c.rounds ++ ending_outcomes c.ending)
     (rounds_parts (c.rounds ++ ending_rounds c.ending))
-course_tells {old} c =
+course_tells {end} {old} {new} none c =
     let made : List Outcome = rounds_outcomes rounds ++ ending_outcomes ending in
-    let first = rounds_tell [] old mid rounds (subst (IsTold []) (sym none) nothing_told) runs in
-    let last = ending_tells ending first.waiting ended in
+    let first = rounds_tell made old.stage mid rounds
+    (Contains-append_left (rounds_outcomes rounds) (ending_outcomes ending)) (rw none nothing_told) runs in
+    let last = ending_tells ending (Contains-append_right (rounds_outcomes rounds) (ending_outcomes ending))
+    first.waiting (record { count = length rounds; end = end; new = new.stage; ends = ends }) in
     subst (AreReported made) (sym (parts-more rounds (ending_rounds ending)))
-    (are_both made (rounds_parts rounds) (rounds_parts (ending_rounds ending))
-    (are_more (rounds_outcomes rounds) (ending_outcomes ending) (rounds_parts rounds) first.sent) last)
+    (are_both made (rounds_parts rounds) (rounds_parts (ending_rounds ending)) first.sent last)
   where
-    open c use {none, mid, rounds, runs, ending, ended}
+    open c use {mid, rounds, runs, ending, ends}

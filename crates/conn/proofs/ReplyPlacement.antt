@@ -1,11 +1,11 @@
-use Rattle.std.proofs.lemmas.Grind.{common_steps}
 -- Lemmas on where replies stand among a film's frames and reports.
-use Rattle.std.proofs.Common.{◌≡◌, ℕ, ◌+◌, ◌-◌, ◌++◌, Bool, true, false, if◌then◌else◌, List, [], ◌∷◌}
-use Rattle.std.proofs.Common.{length, refl, ap, sym, ◌∙◌, subst, arith}
-use Rattle.std.proofs.lemmas.List.{append-nil, append_assoc, length-append}
+use Rattle.std.proofs.lemmas.Grind.{common_steps}
+use Rattle.std.proofs.Common.{◌≡◌, ℕ, ◌+◌, ◌-◌, ◌++◌, Bool, true, if◌then◌else◌, List, [], ◌∷◌, length, refl, ap, sym}
+use Rattle.std.proofs.Common.{◌∙◌, subst, arith}
+use Rattle.std.proofs.lemmas.List.{append_assoc, length-append}
 use Rattle.film_frames.specs.Tracks.{IsBoundary}
-use Rattle.pacer.specs.PacerStates.{IsPacerState, PacerState, first_slots, plan_bytes, at_slot}
-use Rattle.pacer.specs.PacerStates.{stands_at_boundary, step_end, after_step}
+use Rattle.pacer.specs.PacerStates.{IsPacerState, PacerState, first_slots, plan_bytes, at_slot, stands_at_boundary}
+use Rattle.pacer.specs.PacerStates.{step_end, after_step}
 use Rattle.pacer.proofs.SendLemmas.{between-length}
 use Rattle.session.specs.declared.states.Play.{Play as Played}
 use Rattle.film_streams.specs.declared.setups.Setup.{Setup}
@@ -16,11 +16,11 @@ use Rattle.session.specs.SessionStates.{SessionState}
 use Rattle.conn.specs.InputSteps.{SentPart, Film, Text, Stage, ElementStep, Passed, Answered, TakesAll, due_parts}
 use Rattle.conn.specs.InputSteps.{film_bytes, reply_parts}
 use Rattle.conn.specs.EventSteps.{Round, Runs, RunsAll, round_outcomes, rounds_outcomes, takings_outcomes}
-use Rattle.conn.specs.Films.{HaveNoHalt, GoesOn, HasSent, HasSentOn, StandBetween, PlaySpan, round_parts}
-use Rattle.conn.specs.Films.{rounds_parts, takings_parts}
+use Rattle.conn.specs.Films.{HaveNoHalt, GoesOn, HasSent, HasSentOn, StandBetween, PlaySpan, round_parts, rounds_parts}
+use Rattle.conn.specs.Films.{takings_parts}
 use Rattle.conn.proofs.FilmBytes.{next_of_sent, stopped_is}
 use Rattle.conn.proofs.PlayProgress.{comes_on, going_left, going_on, heard_left, round_on, span_going, taking_left}
-use Rattle.conn.proofs.PlayProgress.{takes_left, unhalted_front, unhalted_rest}
+use Rattle.conn.proofs.PlayProgress.{takes_left, unhalted}
 use Rattle.conn.proofs.EventPremises.{PlayGoing}
 use Rattle.conn.proofs.StationAnswers.{ComesAs, comes_as}
 
@@ -45,17 +45,25 @@ stopped_place : (slot : ℕ) (p : PacerState) → IsPacerState p
     ≡ p.before + (after_step true slot p).sent
 stopped_place slot p is = grind (arith, next_of_sent p is, between-length)
 
-stand-append : (pieces : List (List ℕ)) (place : ℕ) (xs ys : List SentPart) → StandBetween pieces place xs →
-    StandBetween pieces (place + length (film_bytes xs)) ys → StandBetween pieces place (xs ++ ys)
-stand-append pieces place [] ys first second = subst (λ n. StandBetween pieces n ys) (omega arith) second
-stand-append pieces place (Film bytes ∷ xs) ys first second =
-    stand-append pieces (place + length bytes) xs ys first
-    (subst (λ n. StandBetween pieces n ys) (omega (arith, length-append bytes (film_bytes xs))) second)
-stand-append pieces place (Text text ∷ xs) ys first second = (first.0, stand-append pieces place xs ys first.1 second)
+stand-append : (pieces : List (List ℕ)) (place next : ℕ) (xs ys : List SentPart)
+    → next ≡ place + length (film_bytes xs) → StandBetween pieces place xs → StandBetween pieces next ys
+    → StandBetween pieces place (xs ++ ys)
+stand-append pieces place next [] ys is first second = subst (λ n. StandBetween pieces n ys) (omega (arith, is)) second
+stand-append pieces place next (Film bytes ∷ xs) ys is first second =
+    stand-append pieces (place + length bytes) next xs ys (omega (arith, is, length-append bytes (film_bytes xs))) first
+    second
+stand-append pieces place next (Text text ∷ xs) ys is first second =
+    (first.0, stand-append pieces place next xs ys is first.1 second)
 
 -- these parts stand between the frames and reports of a play that goes on
 abbrev StandIn : {session : SessionState} → PlayGoing session → List SentPart → Type 0
 StandIn going parts = StandBetween going.play.pacer.pieces (going.play.pacer.before + length going.film) parts
+
+-- where a reply stands in a slot, if any does
+parts_stand : (waits between : Bool) (pieces : List (List ℕ)) (place : ℕ) (front rest plain text : List ℕ)
+    → (between ≡ true → IsBoundary pieces (place + length front)) → StandBetween pieces place
+    (if waits then Film front ∷ (if between then Text text ∷ Film rest ∷ [] else []) else Film plain ∷ [])
+parts_stand waits between pieces place front rest plain text given = grind arith
 
 due_stand : (session : SessionState) (slot : ℕ) (going : PlayGoing session) → StandIn going (due_parts session slot)
 due_stand session slot going =
@@ -64,20 +72,13 @@ due_stand session slot going =
     let State' : State → Type 0 =
     λ st. (is_between (stepped_in true slot st) ≡ true → IsBoundary p.pieces (place + length (step_bytes true slot st)))
     in
-    let stands : State' (Playing going.setup going.play) =
-    λ between. subst (IsBoundary p.pieces)
-    (omega (arith, sent_place going.play session.heard going.film going.sent, stopped_place slot p going.sent.pacing))
-    (boundary_here (after_step true slot p) (stopped_is slot p going.sent.pacing) between) in
-    by-case session.waits (is_between (stepped_in true slot session.state)) (subst State' (sym going.state) stands)
-  where
-    by-case : (waits between : Bool)
-        → (between ≡ true → IsBoundary going.play.pacer.pieces
-        (going.play.pacer.before + length going.film + length (step_bytes true slot session.state)))
-        → StandIn going (if waits then Film (step_bytes true slot session.state)
-        ∷ (if between
-        then Text session.text ∷ Film (step_bytes false slot (stepped_in true slot session.state)) ∷ [] else [])
-        else Film (step_bytes false slot session.state) ∷ [])
-    by-case waits between given = grind arith
+    let stands : State' (Playing going.setup going.play) = search (
+      sent_place going.play session.heard going.film going.sent,
+      stopped_place slot p going.sent.pacing,
+      stopped_is slot p going.sent.pacing,
+      boundary_here,
+    ) in
+    parts_stand session.waits _ p.pieces place _ _ _ _ (subst State' (sym going.state) stands)
 
 none_stand : (goes : Bool) (pieces : List (List ℕ)) (place : ℕ) (parts : List SentPart)
     → (goes ≡ true → StandBetween pieces place parts) → StandBetween pieces place (if goes then parts else [])
@@ -101,8 +102,8 @@ pub takings_film : (old new : Stage) (takings : List ElementStep) → TakesAll o
     → film_bytes (takings_parts takings) ≡ []
 takings_film old new [] takes = refl
 takings_film old new (Passed n ∷ takings) takes = takings_film takes.0 new takings takes.1.1
-takings_film old new (Answered message outcome parts ∷ takings) takes =
-    grind (arith, takings_film takes.0 new takings takes.1.1)
+takings_film old new (Answered message outcome parts ∷ takings) takes = search
+    (arith, takings_film takes.0 new takings takes.1.1)
 
 takes_stand : (old new : Stage) (takings : List ElementStep) → TakesAll old takings new
     → HaveNoHalt (takings_outcomes takings) → (going : PlayGoing old.session) → StandIn going (takings_parts takings)
@@ -112,18 +113,12 @@ takes_stand old new (Passed n ∷ takings) takes free going =
     (going_left going (taking_left old takes.0 (Passed n) takes.1.0 tt going))
 takes_stand old new (Answered message outcome parts ∷ takings) takes free going =
     let taken = takes.1.0 in
-    let p = going.play.pacer in
-    let place : ℕ = p.before + length going.film in
     let left = taking_left old takes.0 (Answered message outcome parts) taken (free.0, tt) going in
     let none : film_bytes parts ≡ [] = grind arith in
-    let reply : StandBetween p.pieces place parts =
-    subst (StandBetween p.pieces place) (sym taken.parts_are)
-    (reply_stands taken.answered (going_left going
-    (heard_left (record { message = message; outcome = outcome; heard = taken.heard }) free.0 going))) in
-    let rest : StandBetween p.pieces place (takings_parts takings) =
-    takes_stand takes.0 new takings takes.1.1 free.1 (going_left going left) in
-    stand-append p.pieces place parts (takings_parts takings) reply
-    (subst (λ n. StandBetween p.pieces n (takings_parts takings)) (omega (arith, ap length none)) rest)
+    let heard = heard_left taken.heard free.0 going in
+    stand-append _ _ _ parts (takings_parts takings) (omega (arith, ap length none))
+    (rw taken.parts_are (reply_stands taken.answered (going_left going heard)))
+    (takes_stand takes.0 new takings takes.1.1 free.1 (going_left going left))
 
 -- what stands in a play once more of it was sent stands in it as it was
 stand_on : {setup : Setup} {play : Played} {session : SessionState} (film more : List ℕ) (parts : List SentPart)
@@ -136,8 +131,7 @@ round_stands : {old new : Stage} {round : Round} → Runs old round new → Have
 round_stands {new = new} {round} runs free going =
     let comes = comes_as round runs.comes in
     let on = comes_on comes free.0 going in
-    stand-append going.play.pacer.pieces (going.play.pacer.before + length going.film) round.due
-    (takings_parts round.takings) (comes_stand comes going)
+    stand-append _ _ _ round.due (takings_parts round.takings) refl (comes_stand comes going)
     (stand_on going.film (film_bytes round.due) (takings_parts round.takings) on
     (takes_stand runs.opened new round.takings runs.takes free.1 (going_on on)))
 
@@ -146,33 +140,26 @@ pub rounds_stand : (old new : Stage) (rounds : List Round) → RunsAll old round
     → HaveNoHalt (rounds_outcomes rounds) → (going : PlayGoing old.session) → StandIn going (rounds_parts rounds)
 rounds_stand old new [] runs free going = tt
 rounds_stand old new (round ∷ rounds) runs free going =
-    let first = unhalted_front (round_outcomes round) (rounds_outcomes rounds) free in
-    let on = round_on runs.1.0 first going in
+    let each = unhalted (round_outcomes round) (rounds_outcomes rounds) free in
+    let on = round_on runs.1.0 each.0 going in
     let pieces = going.play.pacer.pieces in
     let place : ℕ = going.play.pacer.before + length going.film in
-    let film_is : length (film_bytes (round_parts round)) ≡ length (film_bytes round.due) =
-    grind (arith, film_bytes-append, takings_film, append-nil) in
-    let rest : StandBetween pieces (place + length (film_bytes round.due)) (rounds_parts rounds) =
-    stand_on going.film (film_bytes round.due) (rounds_parts rounds) on
-    (rounds_stand runs.0 new rounds runs.1.2 (unhalted_rest (round_outcomes round) (rounds_outcomes rounds) free)
-    (going_on on)) in
-    stand-append pieces place (round_parts round) (rounds_parts rounds) (round_stands runs.1.0 first going)
-    (subst (λ n. StandBetween pieces n (rounds_parts rounds)) (omega (arith, film_is)) rest)
+    let film_is : length (film_bytes (round_parts round))
+    ≡ length (film_bytes round.due) = search (arith, takings_film) in
+    stand-append pieces place (place + length (film_bytes round.due)) (round_parts round) (rounds_parts rounds)
+    (omega (arith, film_is)) (round_stands runs.1.0 each.0 going)
+    (stand_on going.film (film_bytes round.due) (rounds_parts rounds) on
+    (rounds_stand runs.0 new rounds runs.1.2 each.1 (going_on on)))
 
 -- from a play's beginning on
-pub replies_stand : (s : PlaySpan) → GoesOn s →
-    StandBetween s.play.pacer.pieces (s.play.pacer.before + length s.film)
+pub replies_stand : (s : PlaySpan) → GoesOn s → StandBetween s.play.pacer.pieces (s.play.pacer.before + length s.film)
     (takings_parts s.takings ++ rounds_parts s.rounds)
 replies_stand s on =
-    let first = unhalted_front (takings_outcomes s.takings) (rounds_outcomes s.rounds) on.unhalted in
-    let after = unhalted_rest (takings_outcomes s.takings) (rounds_outcomes s.rounds) on.unhalted in
+    let each = unhalted (takings_outcomes s.takings) (rounds_outcomes s.rounds) on.unhalted in
     let going : PlayGoing s.old.session = span_going s on in
-    let pieces = s.play.pacer.pieces in
     let place : ℕ = s.play.pacer.before + length s.film in
-    let rest : StandBetween pieces place (rounds_parts s.rounds) =
-    rounds_stand on.mid s.new s.rounds on.runs after
-    (going_left going (takes_left s.old on.mid s.takings on.takes first going)) in
-    stand-append pieces place (takings_parts s.takings) (rounds_parts s.rounds)
-    (takes_stand s.old on.mid s.takings on.takes first going)
-    (subst (λ n. StandBetween pieces n (rounds_parts s.rounds))
-    (omega (arith, ap length (takings_film s.old on.mid s.takings on.takes))) rest)
+    stand-append s.play.pacer.pieces place place (takings_parts s.takings) (rounds_parts s.rounds)
+    (omega (arith, ap length (takings_film s.old on.mid s.takings on.takes)))
+    (takes_stand s.old on.mid s.takings on.takes each.0 going)
+    (rounds_stand on.mid s.new s.rounds on.runs each.1
+    (going_left going (takes_left s.old on.mid s.takings on.takes each.0 going)))

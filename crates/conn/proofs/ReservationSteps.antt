@@ -1,7 +1,7 @@
-use Rattle.std.proofs.lemmas.Grind.{common_steps}
 -- Lemmas on what a connection makes of the journal and leaves of its seat, one call after another.
-use Rattle.std.proofs.Common.{◌≡◌, ℕ, List, [], ◌∷◌, ◌++◌, Option, Some, None, ◌==◌, true, if◌then◌else◌}
-use Rattle.std.proofs.Common.{refl, ap, arith}
+use Rattle.std.proofs.lemmas.Grind.{common_steps}
+use Rattle.std.proofs.Common.{◌≡◌, ℕ, List, [], ◌∷◌, ◌++◌, Option, Some, None, ◌==◌, true, if◌then◌else◌, refl, ap}
+use Rattle.std.proofs.Common.{arith}
 use Rattle.std.proofs.lemmas.List.{append-nil, length-append, get_or_append_left}
 use Rattle.std.proofs.lemmas.List.Elements.{All-append, All-cons, All-nil}
 use Rattle.admission.specs.declared.entries.Command.TheVariants.{Look}
@@ -13,8 +13,8 @@ use Rattle.session_records.specs.declared.notes.Receipt.TheVariants.{Entry as En
 use Rattle.session.specs.SessionStates.{OpenBooking, IsSameBooking, AwaitsNoAnswer, open_of}
 use Rattle.station.specs.Bookings.{Booking}
 use Rattle.conn.specs.ReservationInvariant.{ReservationState, HasAdvanced, IsHeld, entry_receipts, receipt_for, Closed}
-use Rattle.conn.specs.ReservationInvariant.{Broken, open_play_after, open_play_with, open_play_of}
-use Rattle.conn.specs.ReservationInvariant.{IsQuiet, KeepsReservations}
+use Rattle.conn.specs.ReservationInvariant.{Broken, open_play_after, open_play_with, open_play_of, IsQuiet}
+use Rattle.conn.specs.ReservationInvariant.{KeepsReservations}
 use Rattle.station.specs.Seats.{SeatState}
 use Rattle.conn.specs.declared.connections.Connection.{Connection}
 
@@ -44,9 +44,8 @@ pub gone_on : (a b c : ReservationState) → HasAdvanced a b → HasAdvanced b c
 gone_on a b c first second = grind (arith, common_steps)
 
 -- a play stays open as an entry is made that doesn't halt it
-open_among_more : (mine : List PlacedEntry) (placed : PlacedEntry) (number keep : ℕ) →
-    ¬ Halts number placed.entry.command → IsOpenAmong mine number keep →
-    IsOpenAmong (mine ++ placed ∷ []) number keep
+open_among_more : (mine : List PlacedEntry) (placed : PlacedEntry) (number keep : ℕ)
+    → ¬ Halts number placed.entry.command → IsOpenAmong mine number keep → IsOpenAmong (mine ++ placed ∷ []) number keep
 open_among_more mine placed number keep other among = record {
   start = among.start;
   segments = among.segments;
@@ -71,17 +70,11 @@ pub held_same : (mine : List PlacedEntry) (booking : Option Booking) (old new : 
     → IsSameBooking old new → IsHeld mine booking old → IsHeld mine booking new
 held_same mine booking old new given given' = grind arith
 
--- one more entry is the seat's own, and its receipt is noted
-pub record HasEntered (old new : ReservationState) (placed : PlacedEntry) : Type 0 where
-  pub booking : Option Booking
-  pub was : old.booking ≡ booking
-  pub mine : new.mine ≡ old.mine ++ placed ∷ []
-  pub receipts : new.receipts ≡ old.receipts ++ receipt_for placed ∷ []
-
--- with an entry the booking becomes what the entry makes of it
-pub gone_entry : {old new : ReservationState} {placed : PlacedEntry} (entered : HasEntered old new placed)
-    → open_play_with (open_play_of entered.booking) placed ≡ open_play_of new.booking → HasAdvanced old new
-gone_entry {old} {placed = placed} entered opened = grind (arith, entry_receipts-append)
+-- one more entry is the seat's own, and its receipt is noted: the booking becomes what the entry makes of it
+pub gone_entry : {old new : ReservationState} {booking : Option Booking} (placed : PlacedEntry) → old.booking ≡ booking
+    → new.mine ≡ old.mine ++ placed ∷ [] → new.receipts ≡ old.receipts ++ receipt_for placed ∷ []
+    → open_play_with (open_play_of booking) placed ≡ open_play_of new.booking → HasAdvanced old new
+gone_entry {old} placed was mine receipts opened = grind (arith, entry_receipts-append)
 
 -- a look leaves the booking, and a halt none
 pub at_look : (booking : Option Booking) (place slot now at booked : ℕ)
@@ -118,21 +111,8 @@ pub kept_moved : (seat : SeatState) (connection : Connection) (input : List ℕ)
     KeepsReservations seat seat connection (record connection { input = input })
 kept_moved seat connection input quiet = grind (arith, common_steps)
 
--- no entry was made, and no booking opened or closed
-pub record IsUnbooked (a b : Connection) : Type 0 where
-  pub booking : b.booking ≡ a.booking
-  pub receipts : b.session.receipts ≡ a.session.receipts
-
--- and more of a play may have become due
-pub record IsMoreDue (a b : Connection) : Type 0 where
-  pub rest : AwaitsNoAnswer b.session
-  pub same : IsUnbooked a b
-  pub opens : IsSameBooking (open_of a.session) (open_of b.session)
-
-pub kept_due : {a b : Connection} (seat : SeatState) → IsQuiet seat.mine a → IsMoreDue a b
-    → KeepsReservations seat seat a b
-kept_due {a} {b} seat quiet due = grind (arith, common_steps)
-
--- the same booking is open
-pub still_open : (old new : Option OpenBooking) → new ≡ old → IsSameBooking old new
-still_open old new given = grind arith
+-- no entry was made, and no booking opened or closed, but more of a play may have become due
+pub kept_due : (seat : SeatState) (a b : Connection) → IsQuiet seat.mine a → AwaitsNoAnswer b.session
+    → b.booking ≡ a.booking → b.session.receipts ≡ a.session.receipts
+    → IsSameBooking (open_of a.session) (open_of b.session) → KeepsReservations seat seat a b
+kept_due seat a b quiet rest booking receipts opens = grind (arith, common_steps)

@@ -16,8 +16,8 @@ use Rattle.session.specs.SlotSteps.{after_slot}
 use Rattle.session.specs.SessionStates.{AwaitedAnswer, NoAnswer, HaltAnswer, SessionState, awaited_answer}
 use Rattle.session_records.specs.declared.notes.OfferNote.{OfferNote}
 use Rattle.conn.specs.EventSteps.{Comes, Round}
-use Rattle.conn.specs.InputSteps.{IsAskAnswered, IsFinished, IsHalted, IsLookAnswered, IsPlayAnswered, Outcome}
-use Rattle.conn.specs.InputSteps.{Unasked, ElementStep, Entered, WasFull, Offered, SentPart, Stage, slot_parts, stage}
+use Rattle.conn.specs.InputSteps.{IsAskAnswered, IsFinished, IsLookAnswered, IsPlayAnswered, Outcome, Unasked}
+use Rattle.conn.specs.InputSteps.{ElementStep, Entered, WasFull, Offered, SentPart, Stage, slot_parts, stage}
 
 -- an entry is that of a play, and it has this answer
 pub record IsPlayEntry (old : SessionState) (plan : List Segment) (placed : PlacedEntry) (answer : Answer)
@@ -71,51 +71,36 @@ pub data ComesAs (old : Stage) : Round → Stage → Type 0 where
         takings = takings;
       }) (stage new old.input)
 
-halt_as : {old new : SessionState} {keep : ℕ} {outcome : Outcome} → FinishesAs old (HaltAnswer keep) outcome new
-    → AnswersAs old (AskHalt keep) outcome new
-halt_as (DoneHalted entry) = PlayHalted entry
-
 module _ {old new : SessionState} where
-  done_as : {keep : ℕ} (outcome : Outcome) → IsHalted old keep outcome new
-      → FinishesAs old (HaltAnswer keep) outcome new
-  done_as {keep} (Entered placed) halted =
-      subst (FinishesAs old (HaltAnswer keep) (Entered placed)) (sym halted.halts)
-      (DoneHalted (record { number = halted.number; command = halted.command; answer_is = halted.answer }))
-  done_as _ halted = absurd halted
-
   pub answers_as : (ask : Ask) (outcome : Outcome) → IsAskAnswered old ask outcome new → AnswersAs old ask outcome new
-  answers_as AskReply Unasked answered = subst (AnswersAs old AskReply Unasked) (sym answered) NoneAsked
+  answers_as AskReply Unasked answered = rw answered NoneAsked
   answers_as (AskPlay plan) (Entered placed) answered =
       by-answer placed.entry.answer (record { command = answered.0; answer_is = refl }) answered.1
     where
       by-answer : (answer : Answer) → IsPlayEntry old plan placed answer → IsPlayAnswered old placed answer new
           → AnswersAs old (AskPlay plan) (Entered placed) new
       by-answer (Admitted start) entry answered =
-          subst (AnswersAs old (AskPlay plan) (Entered placed)) (sym answered.1)
-          (PlayAdmitted entry (subst (IsPlayAnswered old placed (Admitted start)) answered.1 answered))
-      by-answer (Overflow slot booked asked) entry answered =
-          subst (AnswersAs old (AskPlay plan) (Entered placed)) (sym answered) (PlayOverflowed entry)
+          rw answered.1 (PlayAdmitted entry (subst (IsPlayAnswered old placed (Admitted start)) answered.1 answered))
+      by-answer (Overflow slot booked asked) entry answered = rw answered (PlayOverflowed entry)
       by-answer _ entry answered = absurd answered
-  answers_as (AskPlay plan) (WasFull more entries live) answered =
-      subst (AnswersAs old (AskPlay plan) (WasFull more entries live)) (sym answered.0) (PlayFull answered.1)
-  answers_as (AskHalt keep) outcome answered = halt_as (done_as outcome answered)
+  answers_as (AskPlay plan) (WasFull more entries live) answered = rw answered.0 (PlayFull answered.1)
+  answers_as (AskHalt keep) (Entered placed) answered = rw answered.halts
+      (PlayHalted (record { number = answered.number; command = answered.command; answer_is = answered.answer }))
   answers_as (AskLook slot) (Entered placed) answered = by-answer placed.entry.answer refl answered.1
     where
       by-answer : (answer : Answer) → placed.entry.answer ≡ answer → IsLookAnswered old placed answer new
           → AnswersAs old (AskLook slot) (Entered placed) new
-      by-answer (Looked now at booked) is answered =
-          subst (AnswersAs old (AskLook slot) (Entered placed)) (sym answered) (LookMade is)
+      by-answer (Looked now at booked) is answered = rw answered (LookMade is)
       by-answer _ is answered = absurd answered
-  answers_as (AskLook slot) (WasFull more entries live) answered =
-      subst (AnswersAs old (AskLook slot) (WasFull more entries live)) (sym answered.0) LookFull
-  answers_as (AskOffer plan offers) (Offered at_slot note) answered =
-      subst (AnswersAs old (AskOffer plan offers) (Offered at_slot note)) (sym answered.2) OfferMade
+  answers_as (AskLook slot) (WasFull more entries live) answered = rw answered.0 LookFull
+  answers_as (AskOffer plan offers) (Offered at_slot note) answered = rw answered.2 OfferMade
   answers_as _ _ answered = absurd answered
 
   pub finishes_as : (asks : AwaitedAnswer) (outcome : Outcome) → IsFinished asks old outcome new
       → FinishesAs old asks outcome new
-  finishes_as NoAnswer Unasked is = subst (FinishesAs old NoAnswer Unasked) (sym is) NothingLeft
-  finishes_as (HaltAnswer keep) outcome is = done_as outcome is
+  finishes_as NoAnswer Unasked is = rw is NothingLeft
+  finishes_as (HaltAnswer keep) (Entered placed) is =
+      rw is.halts (DoneHalted (record { number = is.number; command = is.command; answer_is = is.answer }))
   finishes_as _ _ is = absurd is
 
 pub comes_as : {old new : Stage} (round : Round) → Comes old round.event round.due round.halt new
@@ -124,17 +109,9 @@ comes_as {old} {new} round comes = by-event round.event round.due round.halt com
   where
     by-event : (event : IoEvent) (due : List SentPart) (halt : Outcome) → Comes old event due halt new
         → ComesAs old (record { event = event; due = due; halt = halt; takings = round.takings }) new
-    by-event (HeardBytes bytes) due halt comes =
-        let here = stage old.session (old.input ++ bytes) in
-        let its : List SentPart → Outcome → Round = λ ps h.
-        record { event = HeardBytes bytes; due = ps; halt = h; takings = round.takings } in
-        subst (ComesAs old (its due halt)) (sym comes.3)
-        (subst (λ ps. ComesAs old (its ps halt) here) (sym comes.0)
-        (subst (λ h. ComesAs old (its [] h) here) (sym comes.1) BytesCame))
+    by-event (HeardBytes bytes) due halt comes = rw (comes.3, comes.0, comes.1) BytesCame
     by-event (HeardSlot slot) due halt comes =
-        let its : List SentPart
-        → Round = λ ps. record { event = HeardSlot slot; due = ps; halt = halt; takings = round.takings } in
-        subst (λ i. ComesAs old (its due) (stage new.session i)) (sym comes.0)
-        (subst (λ ps. ComesAs old (its ps) (stage new.session old.input)) (sym comes.1.parts_are)
+        let its : Round = record { event = HeardSlot slot; due = due; halt = halt; takings = round.takings } in
+        subst (λ i. ComesAs old its (stage new.session i)) (sym comes.0) (rw comes.1.parts_are
         (SlotCame (finishes_as (awaited_answer (after_slot old.session slot)) halt comes.1.finished)))
     by-event _ due halt comes = absurd comes

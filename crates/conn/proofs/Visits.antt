@@ -1,5 +1,5 @@
-use Rattle.std.proofs.lemmas.Grind.{common_steps}
 -- What a connection did agrees with its journal, and with each longer one.
+use Rattle.std.proofs.lemmas.Grind.{common_steps}
 use Rattle.std.proofs.Common.{◌≡◌, ◌<◌, ℕ, ◌++◌, List, [], ◌∷◌, Some, length, take, ap, sym, ◌∙◌, subst, arith, inl}
 use Rattle.std.proofs.Common.{inr, suc, zero}
 use Rattle.std.specs.Prelude.{slice_get, slice_index_or}
@@ -21,10 +21,9 @@ use Rattle.conn.specs.Journals.{Terms, terms_of}
 use Rattle.conn.specs.Parts.{AreServed, HasServedOne}
 use Rattle.conn.specs.Guarantees.{AreRefusalsJustified, MeetsGuarantee, ReportsOverflowOf}
 use Rattle.conn.specs.InputSteps.{Outcome, SentPart, Film, Text}
-use Rattle.conn.specs.EventSteps.{ending_outcomes, entries_in, rounds_outcomes}
+use Rattle.conn.specs.EventSteps.{ending_outcomes, rounds_outcomes}
 use Rattle.conn.specs.Films.{rounds_parts}
 use Rattle.conn.specs.Plays.{ending_rounds}
-use Rattle.conn.specs.ReservationInvariant.{Closed, open_play_from}
 use Rattle.conn.specs.Observations.{AreNoted}
 use Rattle.conn.specs.declared.reports.ConnReport.{ConnReport}
 use Rattle.conn.proofs.Journals.{LongerJournal, same_journal, agree_longer, terms_same}
@@ -42,29 +41,17 @@ one_agrees {old} {new} visit one = λ told tells found.
           let entries = one.entries in
           let served = meets.served in
           let course = served.course in
-          let doings : Activity =
-          record { rounds = course.rounds; ending = course.ending; halt = served.closes.halt } in
+          let doings : Activity = assumption in
           let noted : AreNoted old new (doings_outcomes doings) = noted_on course.noted served.closes.noted in
           record {
             legal = meets.booked.legal;
             doings = doings;
             told_is = tells ∙ (served.told ∙ course.told);
-            done = record {
-              mid = course.mid;
-              runs = course.runs;
-              last = served.ended.stage;
-              ends = course.ends;
-              few = course.few;
-              closed = served.closed;
-              closes = served.closes.closes;
-              report_is = served.report_is;
-            };
+            done = search arith;
             agree = seen_agrees noted;
             plays = meets.keeps.plays;
             refusals = meets.keeps.refusals;
-            halts = subst (λ made. open_play_from Closed made ≡ Closed)
-                (append_cancel_left old.mine entries.made (entries_in (doings_outcomes doings))
-                (sym entries.mine_is ∙ noted.mine)) entries.open_is;
+            halts = search (arith, append_cancel_left);
             fault = one.fault;
           }
       | inr nothing ↦ absurd (found nothing.end)
@@ -118,18 +105,10 @@ agrees_longer {terms = terms} {journal} {longer} agrees prefix legal =
     let grown : LongerJournal =
     record (same_journal terms journal 0 0 (omega arith)) { longer = longer; prefix = prefix } in
     let doings = agrees.doings in
-    record {
-      legal = legal;
-      doings = doings;
-      told_is = agrees.told_is;
-      done = agrees.done;
-      agree = agree_longer grown (doings_outcomes doings) agrees.agree;
-      plays = agrees.plays;
-      refusals = refusals_longer grown (rounds_outcomes doings.rounds ++ ending_outcomes doings.ending)
-          (rounds_parts (doings.rounds ++ ending_rounds doings.ending)) agrees.refusals;
-      halts = agrees.halts;
-      fault = agrees.fault;
-    }
+    let agree = agree_longer grown (doings_outcomes doings) agrees.agree in
+    let refusals = refusals_longer grown (rounds_outcomes doings.rounds ++ ending_outcomes doings.ending)
+    (rounds_parts (doings.rounds ++ ending_rounds doings.ending)) agrees.refusals in
+    search (legal, agree, refusals)
 
 -- ---- one after another
 

@@ -1,12 +1,11 @@
-use Rattle.std.proofs.lemmas.Grind.{common_steps}
 -- What a worker has served of its part of a gate so far, and how the part ends.
-use Rattle.std.proofs.Common.{◌≡◌, ℕ, ◌+◌, ◌<◌, ◌≤◌, List, [], ◌∷◌, ◌++◌, length, map, get_or, Option, Some, None}
-use Rattle.std.proofs.Common.{option_map, refl, ap, sym, ◌∙◌, subst, arith, inl, inr}
+use Rattle.std.proofs.lemmas.Grind.{common_steps}
+use Rattle.std.proofs.Common.{◌≡◌, ℕ, ◌+◌, ◌<◌, ◌≤◌, List, [], ◌∷◌, ◌++◌, length, get_or, Option, Some, None}
+use Rattle.std.proofs.Common.{option_map, refl, sym, subst, arith, inl, inr}
 use Rattle.std.specs.Prelude.{IfSome}
-use Rattle.std.proofs.lemmas.List.{append-nil, map-append, length-append, get_or_append_left}
+use Rattle.std.proofs.lemmas.List.{length-append, get_or_append_left}
 use Rattle.std.proofs.lemmas.Bool.{cases_lt}
-use Rattle.vod_base.specs.Gates.{Content, LastTake, NoMore, Failed, ReturnedConn, HasConnOut, after_take}
-use Rattle.vod_base.specs.Gates.{after_empty_take, after_return}
+use Rattle.vod_base.specs.Gates.{Content, ReturnedConn, HasConnOut, after_take, after_return}
 use Rattle.vod_base.specs.Links.{IoEvent, told_more}
 use Rattle.vod_base.specs.IoState.{HasRisen}
 use Rattle.film_frames.specs.declared.stored_films.Stored.{Stored}
@@ -16,16 +15,12 @@ use Rattle.session.specs.RequestSteps.{new_session_state}
 use Rattle.station.specs.Seats.{IsSameSeat, SeatState}
 use Rattle.station.proofs.SameSeats.{seat_on}
 use Rattle.conn.specs.declared.reports.ConnReport.{ConnReport}
-use Rattle.conn.specs.declared.reports.PartReport.{PartReport}
 use Rattle.conn.specs.declared.reports.ConnEnd.TheVariants.{LinkFault}
-use Rattle.conn.specs.declared.reports.PartEnd.{PartEnd}
-use Rattle.conn.specs.declared.reports.PartEnd.TheVariants.{AllTaken, GateFault, NoMemory}
 use Rattle.conn.specs.Guarantees.{MeetsGuarantee}
 use Rattle.conn.specs.ConnectionService.{ConnectionSpec}
-use Rattle.conn.specs.ReservationInvariant.{ReservationState, HasAdvanced, at_rest}
-use Rattle.conn.specs.ReservationInvariant.{entry_receipts, receipt_for}
-use Rattle.conn.specs.Parts.{AreOf, AreReported, AreServed, HasServed, HasServedOne, IsServed, IsUntouched}
-use Rattle.conn.specs.Parts.{WorkerGate, WorkerInput, WorkerSpec, entries_reported, fresh_history}
+use Rattle.conn.specs.ReservationInvariant.{ReservationState, HasAdvanced, at_rest, entry_receipts}
+use Rattle.conn.specs.Parts.{AreOf, AreReported, AreServed, HasServed, HasServedOne, IsServed, IsUntouched, WorkerGate}
+use Rattle.conn.specs.Parts.{WorkerInput, entries_reported, fresh_history}
 use Rattle.conn.specs.Words.{words_of}
 use Rattle.conn.proofs.JoinedLists.{joined-append}
 
@@ -46,8 +41,7 @@ gone_whole rested gone = grind arith
 
 entries_reported-append : (xs ys : List ConnReport)
     → entries_reported (xs ++ ys) ≡ entries_reported xs ++ entries_reported ys
-entries_reported-append = joined-append
-    (record { part = λ r. entry_receipts r.receipts.items; all = entries_reported; none = refl; one = λ x xs. refl })
+entries_reported-append = joined-append (λ r. entry_receipts r.receipts.items) entries_reported refl (λ x xs. refl)
 
 -- ---- what the part of the gate exposes
 
@@ -57,28 +51,11 @@ pub record TakenBack (before new : Option Content) (returned : ReturnedConn) : T
   pub takes : taken ≡ option_map after_take before
   pub returns : new ≡ option_map (after_return returned) taken
 
-back_is : {before new : Option Content} {returned : ReturnedConn} → TakenBack before new returned
-    → new ≡ option_map (after_return returned) (option_map after_take before)
-back_is {returned = returned} back = back.returns ∙ ap (option_map (after_return returned)) back.takes
-
-served_none : (part : Option Content) → IfSome part IsUntouched → IsServed part part 0
-served_none part given = grind arith
-
 pub served_out : (old mid new : Option Content) (count : ℕ) → IsServed old mid count
     → new ≡ option_map after_take mid → IfSome new HasConnOut
 served_out old mid new count given given' = grind arith
 
-served_one : (conn : ReturnedConn) (old mid : Option Content) (count : ℕ) → IsServed old mid count
-    → IsServed old (option_map (after_return conn) (option_map after_take mid)) (count + 1)
-served_one conn old mid count given = grind (arith, common_steps)
-
--- ---- the words of each report
-
 -- ---- the connections
-
-fresh_is : (old new : Option (List IoEvent)) (doings : List IoEvent) → IfSome old (λ told. told ≡ [])
-    → new ≡ told_more old doings → old ≡ fresh_history new
-fresh_is old new doings given given' = grind arith
 
 -- how a connection was served: its films, settings and words, its link as it was given and as it is
 -- given back, the seat before and after, the report, and what is true of them
@@ -98,37 +75,15 @@ pub record Service : Type 0 where
   pub entries : HasAdvanced (at_rest seat.mine []) (at_rest next.mine report.receipts.items)
   pub fault : report.end ≡ LinkFault → HasRisen given.faults returned.faults
 
--- what a connection exposed at its end is what it exposed before, and more
-told_after : (s : Service) → (doings : List IoEvent) × (s.returned.told ≡ told_more s.given.told doings)
-told_after s = grind arith
-
 pub served_fresh : (s : Service) → HasServedOne s.films s.settings s.returned s.report s.seat s.next
 served_fresh s =
-    let told = returned.told in
-    let more = told_after s in
-    let is : given.told ≡ fresh_history told = fresh_is given.told told more.0 fresh.1 more.1 in
+    let more : (doings : List IoEvent) × (s.returned.told ≡ told_more s.given.told doings) = grind arith in
+    let is : s.given.told ≡ fresh_history s.returned.told = grind (arith, more) in
     record {
       served = grind arith;
       keeps = grind arith;
-      entries = entries;
-      fault = λ is. subst (λ n. HasRisen n returned.faults) fresh.0 (fault is);
-    }
-  where
-    open s use {
-      films,
-      settings,
-      words,
-      given,
-      returned,
-      seat,
-      next,
-      report,
-      fresh,
-      words_are,
-      served,
-      keeps,
-      entries,
-      fault,
+      entries = s.entries;
+      fault = λ is. subst (λ n. HasRisen n s.returned.faults) s.fresh.0 (s.fault is);
     }
 
 -- where a worker stands between two connections: its seat, its part of the gate, and its reports
@@ -170,19 +125,8 @@ pub record IsOneMore (input : WorkerInput) (mid new : WorkerState) : Type 0 wher
 -- the entries of its seat then
 entries_more : {input : WorkerInput} {old mid new : WorkerState} → HasServedSoFar input old mid
     → (more : IsOneMore input mid new) → HasServed old.seat.mine (mid.reports ++ more.report ∷ []) new.seat.mine
-entries_more {old = old} {mid} front more =
-    let served = front.entries in
-    let gone = more.entries in
-    let receipts = more.report.receipts.items in
-    record {
-      made = served.made ++ gone.made;
-      mine_is = grind (arith, common_steps);
-      receipts_are = entries_reported-append mid.reports (more.report ∷ [])
-          ∙ ap (λ rs. entries_reported mid.reports ++ rs) (append-nil (entry_receipts receipts) ∙ gone.receipts_are)
-          ∙ ap (λ rs. rs ++ map receipt_for gone.made) served.receipts_are
-          ∙ sym (map-append receipt_for served.made gone.made);
-      open_is = grind (arith, common_steps);
-    }
+entries_more {old = old} {mid} front more = grind
+    (arith, common_steps, entries_reported-append mid.reports (more.report ∷ []))
 
 -- something is true of each report, at its place
 abbrev OfReports : (ConnReport → ℕ → Type 0) → List ConnReport → Type 0
@@ -208,10 +152,7 @@ connections_more {input} {mid} {new} more old (Some told) are = by-lists old tol
     by-lists : (old : SeatState) (back : List ReturnedConn) (xs : List ConnReport)
         → AreServed input.films input.settings old back xs mid.seat
         → AreServed input.films input.settings old (back ++ more.returned ∷ []) (xs ++ more.report ∷ []) new.seat
-    by-lists old [] [] are = (
-      new.seat,
-      (subst (λ s. HasServedOne input.films input.settings more.returned more.report s new.seat) are more.one, refl),
-    )
+    by-lists old [] [] are = search arith
     by-lists old [] (r ∷ xs) are = absurd are
     by-lists old (b ∷ back) [] are = absurd are
     by-lists old (b ∷ back) (r ∷ xs) are = (are.0, (are.1.0, by-lists are.0 back xs are.1.1))
@@ -229,35 +170,8 @@ one_served {input} {old} {mid} {new} front more =
         words_are = at_end (λ r k. r.words ≡ words_of input.seed input.worker k) mid.reports report
             front.each.words_are more.words;
       };
-      served = subst (λ t. IsServed old.gate.told t (length reports)) (sym (back_is more.back))
-          (subst (IsServed old.gate.told _) (sym (length-append mid.reports (report ∷ [])))
-          (served_one more.returned old.gate.told mid.gate.told (length mid.reports) front.served));
-      connections = subst (λ t. AreReported input.films input.settings t reports old.seat new.seat)
-          (sym (back_is more.back)) (connections_more more old.seat mid.gate.told front.connections);
+      served = search (arith, length-append);
+      connections = rw (more.back.returns, more.back.takes)
+          (connections_more more old.seat mid.gate.told front.connections);
       count = omega (arith, front.count, more.count);
     })
-
--- a part that is served by a worker so far, and its report
-pub record PartSoFar : Type 0 where
-  pub input : WorkerInput
-  pub old : WorkerState
-  pub seat : SeatState
-  pub gate : WorkerGate
-  pub result : PartReport
-  pub so_far : HasServedSoFar input old (record { seat = seat; gate = gate; reports = result.reports.items })
-
--- what is known of the gate by the cause of a part's end
-abbrev EndsBy : PartSoFar → PartEnd → Type 0
-EndsBy p AllTaken = IfSome p.gate.told (λ c. c.own.last ≡ NoMore)
-EndsBy p GateFault = HasRisen p.old.gate.faults p.gate.faults × IfSome p.gate.told (λ c. c.own.last ≡ Failed)
-EndsBy p NoMemory = Unit {0}
-
--- the last take gave none
-pub record TookNone (last : LastTake) (mid new : WorkerGate) : Type 0 where
-  pub told : new.told ≡ option_map (after_empty_take last) mid.told
-  pub count : mid.faults ≤ new.faults
-
--- a part that ends
-ended : {end : PartEnd} (p : PartSoFar) → p.result.end ≡ end → EndsBy p end
-    → WorkerSpec p.input p.old.seat p.seat p.old.gate p.gate p.result
-ended p is ends = grind arith

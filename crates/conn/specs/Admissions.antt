@@ -54,9 +54,8 @@ start_at journal turn heard = start_after (state_after (take turn journal)) (min
 -- Without room for its entry and its halt's it is answered 503, with the journal's entries and open
 -- plays. Else, where a slot would be booked above the link's capacity, 453 with the first one. Else
 -- it is admitted with 200.
-pub record IsDecided (terms : Terms) (journal : List Entry) (old : SessionState) (plan : List
-    Segment)
-    (turn : ℕ) (new : SessionState) : Type 0 where
+pub record IsDecided (terms : Terms) (journal : List Entry) (old : SessionState)
+    (plan : List Segment) (turn : ℕ) (new : SessionState) : Type 0 where
   pub full : terms.limit < turn + open_count (take turn journal) + 2
       → (sequence : ℕ) × (new.text ≡ full_text sequence turn (open_count (take turn journal)))
   pub over : HasRoomAt terms journal turn 2 → (over : Over)

@@ -37,9 +37,8 @@ pub record HasServedFrom (session : SessionState) (old_told new_told : Option (L
   pub report_is : IsReportOf closed report
 
 -- a connection that found no memory: nothing was done
-pub record HasDoneNothing (old_told new_told : Option (List IoEvent)) (old_seat new_seat :
-    SeatState)
-    (report : ConnReport) : Type 0 where
+pub record HasDoneNothing (old_told new_told : Option (List IoEvent))
+    (old_seat new_seat : SeatState) (report : ConnReport) : Type 0 where
   pub end : report.end ≡ NoMemory
   pub told : new_told ≡ old_told
   pub seat : new_seat ≡ old_seat
@@ -50,8 +49,7 @@ pub record HasDoneNothing (old_told new_told : Option (List IoEvent)) (old_seat 
 
 -- what a connection's service is, from a session on
 abbrev pub ConnectionSpec : SessionState → Option (List IoEvent) → Option (List IoEvent) → SeatState
-    →
-    SeatState → ConnReport → Type 0
+    → SeatState → ConnReport → Type 0
 ConnectionSpec session old_told new_told old_seat new_seat report =
     HasServedFrom session old_told new_told old_seat new_seat report
     ⊎ HasDoneNothing old_told new_told old_seat new_seat report

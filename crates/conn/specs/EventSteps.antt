@@ -1,7 +1,7 @@
 -- The course of a connection: event after event, what was processed, what the station answered and
 -- what was sent.
-use Rattle.std.specs.Prelude.{◌≡◌, ℕ, ◌+◌, ◌<◌, ◌≤◌, ◌⊎◌, ◌++◌, true, false, List, [], ◌∷◌}
-use Rattle.std.specs.Prelude.{length, take, drop, Ok, Err}
+use Rattle.std.specs.Prelude.{◌≡◌, ℕ, ◌+◌, ◌<◌, ◌≤◌, ◌⊎◌, ◌++◌, true, false, List, [], ◌∷◌, length}
+use Rattle.std.specs.Prelude.{take, drop, Ok, Err}
 use Rattle.vod_base.specs.Links.{IoEvent, HeardBytes, HeardEnd, HeardSlot, Sent, sends}
 use Rattle.vod_base.specs.declared.links.TheConstants.{MAX_EVENTS}
 use Rattle.interleave.specs.Elements.{IsFirst}
@@ -14,8 +14,8 @@ use Rattle.session.specs.SlotSteps.{missed_between, start_in}
 use Rattle.session.specs.SlotTransitions.{IsCarried}
 use Rattle.session.specs.SessionStates.{AwaitsNoAnswer, SessionState, open_in, open_of}
 use Rattle.conn.specs.InputSteps.{HasHeard, HasStepped, IsNext, Outcome, Unasked, SentPart, Stage}
-use Rattle.conn.specs.InputSteps.{ElementStep, held, most_held}
-use Rattle.conn.specs.InputSteps.{Passed, Answered, TakesAll, entry_in, parts_bytes, stage}
+use Rattle.conn.specs.InputSteps.{ElementStep, held, most_held, Passed, Answered, TakesAll}
+use Rattle.conn.specs.InputSteps.{entry_in, parts_bytes, stage}
 use Rattle.conn.specs.declared.reports.ConnEnd.{ConnEnd}
 use Rattle.conn.specs.declared.reports.ConnEnd.TheVariants.{Ended, TornDown, LinkFault}
 use Rattle.conn.specs.declared.reports.ConnEnd.TheVariants.{TooMuchInput, HeadTooLong, BodyTooLong}

@@ -82,8 +82,7 @@ AreRefusalsJustified terms journal outcomes (Text text ∷ parts) =
 
 -- in a connection's rounds, the last of them included
 pub record RoundsMeetGuarantee (session : SessionState) (rounds : List Round) (ending : Ending)
-    (seat : SeatState)
-    : Type 0 where
+    (seat : SeatState) : Type 0 where
   pub plays : ArePlaysKept session (rounds ++ ending_rounds ending)
   pub refusals : AreRefusalsJustified (terms_of seat) seat.seen (rounds_outcomes rounds
       ++ ending_outcomes ending) (rounds_parts (rounds ++ ending_rounds ending))

@@ -85,9 +85,8 @@ IsLookAnswered old placed (Overflow slot booked asked) new = ⊥
 IsLookAnswered old placed Halted new = ⊥
 
 -- a halt's entry keeps so many bytes of a booking
-pub record IsHaltAnswered (old : SessionState) (keep : ℕ) (placed : PlacedEntry) (new :
-    SessionState)
-    : Type 0 where
+pub record IsHaltAnswered (old : SessionState) (keep : ℕ) (placed : PlacedEntry)
+    (new : SessionState) : Type 0 where
   pub number : ℕ
   pub command : placed.entry.command ≡ Halt number keep
   pub answer : placed.entry.answer ≡ Halted

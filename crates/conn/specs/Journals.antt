@@ -48,8 +48,7 @@ pub record StandsIn (terms : Terms) (journal : List Entry) (from : ℕ) (placed 
 
 -- a prefix of the journal had no room for so many more entries, beside those for the halts of its
 -- open plays: these are its two numbers
-pub record IsFullIn (limit : ℕ) (journal : List Entry) (from more entries live : ℕ)
-    : Type 0 where
+pub record IsFullIn (limit : ℕ) (journal : List Entry) (from more entries live : ℕ) : Type 0 where
   pub after : from ≤ entries
   pub within : entries ≤ length journal
   pub open_is : live ≡ open_count (take entries journal)

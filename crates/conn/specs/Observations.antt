@@ -1,6 +1,6 @@
 -- What is seen of a connection as it goes on, and what each of its doings adds.
-use Rattle.std.specs.Prelude.{◌≡◌, ℕ, ◌+◌, ◌≤◌, ◌⊎◌, ◌++◌, List, [], ◌∷◌, length, Option}
-use Rattle.std.specs.Prelude.{Some, None}
+use Rattle.std.specs.Prelude.{◌≡◌, ℕ, ◌+◌, ◌≤◌, ◌⊎◌, ◌++◌, List, [], ◌∷◌, length, Option, Some}
+use Rattle.std.specs.Prelude.{None}
 use Rattle.vod_base.specs.Links.{IoEvent, sends, told_more}
 use Rattle.vod_base.specs.declared.links.TheConstants.{MAX_EVENTS}
 use Rattle.station.specs.Seats.{IsSameSeat, SeatState}
@@ -15,10 +15,10 @@ use Rattle.conn.specs.Journals.{AgreeWith, terms_of}
 use Rattle.conn.specs.InputSteps.{HasHeard, HasStepped, IsAskAnswered, Outcome, SentPart, Stage}
 use Rattle.conn.specs.InputSteps.{ElementStep, TakesAll, parts_bytes, stage}
 use Rattle.conn.specs.EventSteps.{Ending, Ends, HasFailedInReply, HasFailedInSlot, IsIdle}
-use Rattle.conn.specs.EventSteps.{IsStopped}
-use Rattle.conn.specs.EventSteps.{Round, Runs, RunsAll, ending_bytes, ending_doings, ending_events}
-use Rattle.conn.specs.EventSteps.{ending_outcomes, entries_in, round_bytes, round_outcomes}
-use Rattle.conn.specs.EventSteps.{rounds_doings, rounds_outcomes, takings_bytes, takings_outcomes}
+use Rattle.conn.specs.EventSteps.{IsStopped, Round, Runs, RunsAll, ending_bytes, ending_doings}
+use Rattle.conn.specs.EventSteps.{ending_events, ending_outcomes, entries_in, round_bytes}
+use Rattle.conn.specs.EventSteps.{round_outcomes, rounds_doings, rounds_outcomes, takings_bytes}
+use Rattle.conn.specs.EventSteps.{takings_outcomes}
 
 -- where a connection stands, what its link exposed, and its seat
 pub record Observed : Type 0 where
@@ -42,9 +42,8 @@ abbrev pub IsSent : Option (List IoEvent) → List ℕ → Option (List IoEvent)
 IsSent old bytes new = new ≡ told_more old (sends bytes)
 
 -- the station was asked, and answered
-pub record HasAnswered (old : SessionState) (ask : Ask) (new : SessionState) (old_seat new_seat :
-    SeatState)
-    : Type 0 where
+pub record HasAnswered (old : SessionState) (ask : Ask) (new : SessionState)
+    (old_seat new_seat : SeatState) : Type 0 where
   pub outcome : Outcome
   pub answered : IsAskAnswered old ask outcome new
   pub noted : AreNoted old_seat new_seat (outcome ∷ [])

@@ -119,9 +119,8 @@ worker_input films settings seed worker =
 
 -- all that a worker's part of a gate brings: what it leaves of the seat and of the part, and its
 -- report
-pub record WorkerSpec (worker_input : WorkerInput) (old_seat new_seat : SeatState) (old new :
-    WorkerGate)
-    (result : PartReport) : Type 0 where
+pub record WorkerSpec (worker_input : WorkerInput) (old_seat new_seat : SeatState)
+    (old new : WorkerGate) (result : PartReport) : Type 0 where
   pub seat : IsSameSeat old_seat new_seat
   pub entries : HasServed old_seat.mine result.reports.items new_seat.mine
   pub reports : AreOf worker_input.seed worker_input.worker result.reports.items

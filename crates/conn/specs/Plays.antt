@@ -129,9 +129,8 @@ ending_rounds (InSlot slot front) = []
 ending_rounds (InReply round message outcome front) = round ∷ []
 
 -- among these rounds, from a session on, this one comes after those, in this stage
-pub record IsRoundIn (first : SessionState) (rounds before : List Round) (round : Round) (old :
-    Stage)
-    : Type 0 where
+pub record IsRoundIn (first : SessionState) (rounds before : List Round) (round : Round)
+    (old : Stage) : Type 0 where
   pub after : List Round
   pub rounds_are : rounds ≡ before ++ round ∷ after
   pub runs : RunsAll (stage first []) before old

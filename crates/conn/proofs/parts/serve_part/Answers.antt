@@ -1,7 +1,6 @@
 use Rattle.std.proofs.Common.{◌++◌, ◌∷◌, ◌∙◌, [], ap, refl, rules, subst, arith}
 use Rattle.conn.specs.Parts.{worker_input}
-use Rattle.conn.proofs.WorkerProgress.{HasServedSoFar, none_served, one_served}
-use Rattle.conn.proofs.WorkerProgress.{served_fresh, served_out, worker_state}
+use Rattle.conn.proofs.WorkerProgress.{HasServedSoFar, none_served, one_served, served_fresh, worker_state}
 use Rattle.conn.proofs.parts.serve_part.Goals as goal
 
 pub connections-init : goal.connections-init
@@ -9,9 +8,7 @@ connections-init g c =
     subst (λ rs. HasServedSoFar (worker_input c.args.films.now c.args.settings.now c.args.seed c.args.worker)
     (worker_state c.args.seat.now (g.G.Gate.faults c.args.part.now) (g.G.Gate.told c.args.part.now) [])
     (worker_state c.args.seat.now (g.G.Gate.faults c.args.part.now) (g.G.Gate.told c.args.part.now) rs)) (search rules)
-    (none_served (worker_input c.args.films.now c.args.settings.now c.args.seed c.args.worker)
-    (worker_state c.args.seat.now (g.G.Gate.faults c.args.part.now) (g.G.Gate.told c.args.part.now) [])
-    c.requires.untouched refl)
+    (none_served _ _ c.requires.untouched refl)
 
 pub connections-preserved : goal.connections-preserved
 connections-preserved g c =
@@ -46,24 +43,3 @@ connections-preserved g c =
       back = record { taken = g.G.Gate.told c.take.new.self; takes = some.gave; returns = c.give_back.ensures.back };
       count = omega (arith, c.take.ensures.count, c.give_back.ensures.count);
     })
-
-pub returns-then-is_err : goal.returns-then-is_err
-returns-then-is_err g c = grind arith
-
-pub returns-in-Ok-None : goal.returns-in-Ok-None
-returns-in-Ok-None g c = grind arith
-
-pub returns-in-Err : goal.returns-in-Err
-returns-in-Err g c = grind arith
-
-pub give_back-requires : goal.give_back-requires
-give_back-requires g c = grind (arith, served_out)
-
-pub serve_connection-report-requires-clause-seat : goal.serve_connection-report-requires-clause-seat
-serve_connection-report-requires-clause-seat g c = c.connections.invariant.seat.id ∙ c.requires.seat
-
-pub serve_connection-report-requires-clause-settings : goal.serve_connection-report-requires-clause-settings
-serve_connection-report-requires-clause-settings g c = c.requires.settings
-
-pub serve_connection-report-requires-clause-films : goal.serve_connection-report-requires-clause-films
-serve_connection-report-requires-clause-films g c = c.requires.films

@@ -1,12 +1,8 @@
-use Rattle.std.proofs.lemmas.Grind.{common_steps}
 use Rattle.std.proofs.Common.{length, refl, arith}
 use Rattle.conn.specs.Observations.{observed}
-use Rattle.conn.proofs.ReservationSteps.{kept_none, kept_on}
-use Rattle.conn.proofs.CourseSteps.{goes_on, run_end, run_none, run_on}
+use Rattle.conn.proofs.ReservationSteps.{kept_on}
+use Rattle.conn.proofs.CourseSteps.{goes_on, run_end, run_on}
 use Rattle.conn.proofs.service.hear_all.Goals as goal
-
-pub returns-in_default-clause-course : goal.returns-in_default-clause-course
-returns-in_default-clause-course g c = grind (arith, common_steps)
 
 pub returns-in-Some-clause-course : goal.returns-in-Some-clause-course
 returns-in-Some-clause-course g c =
@@ -20,9 +16,6 @@ returns-in-Some-clause-course g c =
       seat_is = refl;
       told_is = c.in-Ok.ensures.heard;
     }) (omega (arith, c.events-test.true)) (c.in-Some.ensures.comes c.events._event)
-
-pub events-init : goal.events-init
-events-init g c = grind (arith, kept_none, run_none)
 
 pub events-preserved : goal.events-preserved
 events-preserved g c =
@@ -45,18 +38,6 @@ events-preserved g c =
       omega (arith, inv.4, c.next.ensures.count, c.hear.ensures.counted.count),
       on.2,
     )
-
-pub returns-clause-course : goal.returns-clause-course
-returns-clause-course g c = grind (arith, common_steps)
-
-pub returns-in_default-clause-counted : goal.returns-in_default-clause-counted
-returns-in_default-clause-counted g c = grind arith
-
-pub returns-in-Some-clause-counted : goal.returns-in-Some-clause-counted
-returns-in-Some-clause-counted g c = grind arith
-
-pub returns-clause-counted : goal.returns-clause-counted
-returns-clause-counted g c = grind arith
 
 pub returns-in-Some-clause-kept : goal.returns-in-Some-clause-kept
 returns-in-Some-clause-kept g c = kept_on c.events.invariant.0 c.hear.ensures.kept

@@ -1,5 +1,4 @@
-use Rattle.std.proofs.Common.{arith}
-use Rattle.std.proofs.Common.{Some, rules, refl, ap, sym, ◌∙◌}
+use Rattle.std.proofs.Common.{arith, rules, refl, ap, sym, ◌∙◌}
 use Rattle.conn.specs.ReservationInvariant.{open_play_of}
 use Rattle.conn.specs.InputSteps.{Entered}
 use Rattle.conn.proofs.Outcomes.{noted_entry}
@@ -10,12 +9,9 @@ pub returns-in-Some-clause-kept : goal.returns-in-Some-clause-kept
 returns-in-Some-clause-kept g c = record {
   seat = c.halt-place.ensures.same;
   quiet = search rules;
-  gone = gone_entry (record {
-    booking = Some c.in-Some.booking;
-    was = sym c.replace.ensures.value ∙ c.in-Some.is;
-    mine = c.halt-place.ensures.made.mine;
-    receipts = c.halted.ensures.handed.receipts;
-  }) (at_halt c.in-Some.booking.number ∙ ap open_play_of (sym c.replace.ensures.after));
+  gone = gone_entry _ (sym c.replace.ensures.value ∙ c.in-Some.is) c.halt-place.ensures.made.mine
+      c.halted.ensures.handed.receipts
+      (at_halt c.in-Some.booking.number ∙ ap open_play_of (sym c.replace.ensures.after));
 }
 
 pub returns-in-Some-clause-answered : goal.returns-in-Some-clause-answered

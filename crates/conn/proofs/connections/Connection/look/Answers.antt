@@ -1,6 +1,5 @@
-use Rattle.std.proofs.Common.{arith}
+use Rattle.std.proofs.Common.{arith, refl, rules}
 use Rattle.std.proofs.lemmas.Grind.{common_steps}
-use Rattle.std.proofs.Common.{refl, rules}
 use Rattle.conn.specs.InputSteps.{Entered, WasFull}
 use Rattle.conn.proofs.Outcomes.{noted_entry}
 use Rattle.conn.proofs.ReservationSteps.{at_look, gone_entry, gone_none, held_at_look}
@@ -10,13 +9,8 @@ pub returns-in-Ok-clause-kept : goal.returns-in-Ok-clause-kept
 returns-in-Ok-clause-kept g c = record {
   seat = search rules;
   quiet = search (rules, held_at_look);
-  gone =
-      gone_entry (record {
-        booking = c.args.self.now.booking;
-        was = refl;
-        mine = c.in-Ok.ensures.made.mine;
-        receipts = c.looked.ensures.handed.receipts;
-      }) (at_look c.args.self.now.booking _ _ _ _ _);
+  gone = gone_entry _ refl c.in-Ok.ensures.made.mine c.looked.ensures.handed.receipts
+      (at_look c.args.self.now.booking _ _ _ _ _);
 }
 
 pub returns-in-Err-clause-kept : goal.returns-in-Err-clause-kept

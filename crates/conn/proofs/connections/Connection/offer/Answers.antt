@@ -1,22 +1,11 @@
-use Rattle.std.proofs.Common.{refl, rules}
+use Rattle.std.proofs.Common.{arith, refl, rules}
+use Rattle.std.proofs.lemmas.Grind.{common_steps}
 use Rattle.conn.specs.InputSteps.{Offered}
-use Rattle.conn.proofs.Journals.{MadeOffer, note_of_offer}
-use Rattle.conn.proofs.Outcomes.{noted_offer}
 use Rattle.conn.proofs.connections.Connection.offer.Goals as goal
 
 pub returns-clause-answered : goal.returns-clause-answered
-returns-clause-answered g c =
-    let offer : MadeOffer c.args.seat.now c.offer-offered.new.seat = record {
-      heard = _;
-      plan = _;
-      told = c.offer-offered.result;
-      found = _;
-      same = c.offer-offered.ensures.same;
-      mine = c.offer-offered.ensures.mine;
-      offered = c.offer-offered.ensures.offered;
-    } in
-    record {
-      outcome = Offered offer.heard (note_of_offer offer);
-      answered = (refl, search rules, c.offered.ensures.exact, search rules);
-      noted = noted_offer offer;
-    }
+returns-clause-answered g c = record {
+  outcome = Offered c.args.self.now.session.heard _;
+  answered = (refl, search rules, c.offered.ensures.exact, refl);
+  noted = grind (arith, common_steps);
+}

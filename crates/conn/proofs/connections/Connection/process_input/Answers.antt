@@ -1,6 +1,4 @@
-use Rattle.std.proofs.Common.{rules, arith, Some}
-use Rattle.conn.specs.Observations.{observed}
-use Rattle.conn.proofs.FaultCounts.{counted_on}
+use Rattle.std.proofs.Common.{arith, rules, Some}
 use Rattle.conn.proofs.ElementPrefixes.{cuts_on}
 use Rattle.conn.proofs.ReservationSteps.{kept_on}
 use Rattle.conn.proofs.CourseSteps.{taken_on, up_on}
@@ -16,27 +14,11 @@ elements-preserved g c =
       omega (arith, inv.4, c.process_next.ensures.counted.count),
     )
 
-pub returns-in-Waits : goal.returns-in-Waits
-returns-in-Waits g c =
-    let inv = c.elements.invariant in let next = c.process_next.ensures in
-    record {
-      kept = kept_on inv.0 next.kept;
-      up = grind arith;
-      cut = cuts_on inv.2 next.cut;
-      taken = c.in-Waits.ensures.taken;
-      counted = counted_on inv.4 c.in-Waits.ensures.counted;
-    }
+pub returns-in-Waits-clause-kept : goal.returns-in-Waits-clause-kept
+returns-in-Waits-clause-kept g c = kept_on c.elements.invariant.0 c.process_next.ensures.kept
 
-pub returns-in-End : goal.returns-in-End
-returns-in-End g c =
-    let inv = c.elements.invariant in let next = c.process_next.ensures in
-    record {
-      kept = kept_on inv.0 next.kept;
-      up = up_on (Some c.in-End.end) (observed c.args.self.now (g.K.Link.told c.args.link.now) c.args.seat.now)
-          (observed c.elements.self (g.K.Link.told c.elements.link) c.elements.seat)
-          (observed c.process_next.new.self (g.K.Link.told c.process_next.new.link) c.process_next.new.seat)
-          inv.3 (search rules);
-      cut = cuts_on inv.2 next.cut;
-      taken = c.in-End.ensures.taken;
-      counted = counted_on inv.4 c.in-End.ensures.counted;
-    }
+pub returns-in-End-clause-kept : goal.returns-in-End-clause-kept
+returns-in-End-clause-kept g c = kept_on c.elements.invariant.0 c.process_next.ensures.kept
+
+pub returns-in-End-clause-up : goal.returns-in-End-clause-up
+returns-in-End-clause-up g c = up_on (Some c.in-End.end) _ _ _ c.elements.invariant.3 (search rules)

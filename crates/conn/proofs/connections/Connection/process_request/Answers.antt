@@ -1,9 +1,6 @@
-use Rattle.std.proofs.Common.{arith}
-use Rattle.std.proofs.lemmas.Grind.{common_steps}
 use Rattle.std.proofs.Common.{inl, inr, refl, rules, sym, ◌∙◌}
 use Rattle.interleave.specs.declared.elements.Step.TheVariants.{Request}
 use Rattle.conn.specs.Observations.{observed}
-use Rattle.conn.specs.ReservationInvariant.{KeepsReservations}
 use Rattle.conn.proofs.FaultCounts.{counted_none}
 use Rattle.conn.proofs.ElementPrefixes.{cuts_drop, cuts_none}
 use Rattle.conn.proofs.ReservationSteps.{kept_none}
@@ -21,18 +18,11 @@ answered g c = record {
   n = c.args.length;
   in_front = record {
     first = c.requires.first;
-    replied = sym c.waits.ensures
-        ∙ c.if-waits.false;
+    replied = sym c.waits.ensures ∙ c.if-waits.false;
     torn = c.requires.torn;
   };
   heard = c.answer_request.ensures.heard;
 }
-
--- what the answer keeps is kept, whether the reply was sent or not
-kept : (g : _) (c : After-reply g)
-    → KeepsReservations c.args.seat.now c.answer_request.new.seat c.args.self.now
-    (record c.answer_request.new.self { session = c.reply.new.self })
-kept g c = grind arith
 
 pub returns-then-waits : goal.returns-then-waits
 returns-then-waits g c = record {
@@ -49,9 +39,6 @@ returns-in-Ok-clause-cut g c = cuts_drop (Request c.args.length) c.requires.firs
 pub returns-in-Err-clause-cut : goal.returns-in-Err-clause-cut
 returns-in-Err-clause-cut g c = cuts_drop (Request c.args.length) c.requires.first c.answer_request.ensures.input
 
-pub returns-in-Ok-clause-taken : goal.returns-in-Ok-clause-taken
-returns-in-Ok-clause-taken g c = grind (arith, common_steps)
-
 pub returns-in-Ok-clause-takes : goal.returns-in-Ok-clause-takes
 returns-in-Ok-clause-takes g c =
     taken_reply (answered g (goal.at.returns-in-Ok-clause-takes g c).After-reply)
@@ -64,12 +51,3 @@ returns-in-Err-clause-takes g c =
       lost_reply (answered g (goal.at.returns-in-Err-clause-takes g c).After-reply) c.in-Err.ensures.can
           (stage_is c.in-Err.ensures.failed c.answer_request.ensures.input) c.in-Err.ensures.front,
     )
-
-pub returns-in-Ok-clause-kept : goal.returns-in-Ok-clause-kept
-returns-in-Ok-clause-kept g c = kept g (goal.at.returns-in-Ok-clause-kept g c).After-reply
-
-pub returns-in-Err-clause-kept : goal.returns-in-Err-clause-kept
-returns-in-Err-clause-kept g c = kept g (goal.at.returns-in-Err-clause-kept g c).After-reply
-
-pub returns-in-Err-clause-counted : goal.returns-in-Err-clause-counted
-returns-in-Err-clause-counted g c = grind arith
