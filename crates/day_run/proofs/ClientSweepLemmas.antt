@@ -1,21 +1,20 @@
-use Rattle.std.proofs.lemmas.Grind.{common_steps}
 -- Clients that are passed over one after the other.
+use Rattle.std.proofs.lemmas.Grind.{common_steps}
 use Rattle.std.proofs.Common.{◌≡◌, ◌<◌, ◌≤◌, ◌+◌, ℕ, List, [], ◌∷◌, ◌++◌, length, map, take, drop, set, get_or, Option}
-use Rattle.std.proofs.Common.{Some, None, arith, refl, sym, ap, subst, ◌∙◌, inl, inr}
+use Rattle.std.proofs.Common.{Some, None, arith, refl, sym, ap, subst, ◌∙◌}
 use Rattle.std.specs.Prelude.{sum_by, IfNone, IfSome}
 use Rattle.std.proofs.lemmas.Bool.{cases_eq}
 use Rattle.std.proofs.lemmas.List.{append_assoc, append-nil, ext_get_or, get_or-map, get_or-set_other, get_or-set_same}
 use Rattle.std.proofs.lemmas.List.{length-map, length-set, length-take, map-set, take_at, take_more}
-use Rattle.std.proofs.lemmas.List.Sums.{sum_by_push}
 use Rattle.admission.specs.declared.entries.Entry.{Entry}
-use Rattle.day_run.proofs.ListUpdates.{set-at, set_place}
+use Rattle.day_run.proofs.JournalStepLemmas.{set-at, timed-set, halted-now, open-halt, booked-halt, booked-same}
+use Rattle.day_run.proofs.JournalStepLemmas.{going-set}
 use Rattle.day_script.proofs.Places.{Place}
-use Rattle.day_run.proofs.JournalStepLemmas.{timed-set, halted-now, open-halt, booked-halt, booked-same, going-set}
 use Rattle.day_run.specs.declared.clients.Client.{Client}
 use Rattle.day_run.specs.declared.clients.Client.TheVariants as clients
 use Rattle.day_run.specs.declared.clients.HaltedPlays.{HaltedPlays}
 use Rattle.day_run.specs.Clients.{AreSteps, AreTimed, AreUndone, IsStep, IsTimed, IsUndone, halts_of, state_of}
-use Rattle.day_run.specs.Clients.{AreBooked, AreOnBook, IsGoing, IsHaltOf, IsSameBook, halt_for, state_for}
+use Rattle.day_run.specs.Clients.{AreBooked, AreOnBook, IsHaltOf, IsSameBook, halt_for, state_for}
 use Rattle.day_run.specs.Days.{at_slot, done_halt, halt_entries, entry_by}
 use Rattle.day_run.specs.ClientStates.{ClientState, Idle, after_play, after_sending, sent_between}
 use Rattle.admission.specs.declared.entries.Answer.TheVariants.{Halted}
@@ -30,9 +29,6 @@ pub record IsSwept (f : ClientState → ClientState) (upto : ℕ) (old new : Lis
   pub count : length new ≡ length old
   pub past : (c : ℕ) → c < upto → c < length old → get_or new c Idle ≡ f (get_or old c Idle)
   pub later : (c : ℕ) → upto ≤ c → get_or new c Idle ≡ get_or old c Idle
-
-pub swept-none : (f : ClientState → ClientState) (old : List ClientState) → IsSwept f 0 old old
-swept-none f old = grind arith
 
 pub swept-set : {f : ClientState → ClientState} {i : ℕ} {old new : List ClientState} → i < length old
     → IsSwept f i old new → IsSwept f (i + 1) old (set new i (f (get_or old i Idle)))
@@ -55,30 +51,24 @@ pub states-set : (cs : List Client) (c : ℕ) (client : Client)
 states-set cs c client = map-set state_of cs c client
 
 -- sums and halts of one client more
-pub sum-more : (g : ClientState → ℕ) (states : List ClientState) (i : ℕ) → i < length states
-    → sum_by g (take (i + 1) states) ≡ sum_by g (take i states) + g (get_or states i Idle)
-sum-more g states i inside = grind (arith, common_steps)
-
 pub halt_entries-append : (f : ℕ → ClientState → List Entry) (k : ℕ) (xs ys : List ClientState)
     → halt_entries f k (xs ++ ys) ≡ halt_entries f k xs ++ halt_entries f (k + length xs) ys
 halt_entries-append f k [] ys = grind arith
-halt_entries-append f k (x ∷ xs) ys =
-    grind (
-      arith,
-      halt_entries-append f (k + 1) xs ys,
-      append_assoc (f k x) (halt_entries f (k + 1) xs) (halt_entries f (k + 1 + length xs) ys),
-    )
+halt_entries-append f k (x ∷ xs) ys = search (
+  arith,
+  halt_entries-append f (k + 1) xs ys,
+  append_assoc (f k x) (halt_entries f (k + 1) xs) (halt_entries f (k + 1 + length xs) ys),
+)
 
 pub halt_entries-more : (f : ℕ → ClientState → List Entry) (states : List ClientState) (i : ℕ) → i < length states
     → halt_entries f 0 (take (i + 1) states) ≡ halt_entries f 0 (take i states) ++ f i (get_or states i Idle)
-halt_entries-more f states i inside =
-    grind (
-      arith,
-      length-take i states,
-      take_more states i Idle inside,
-      halt_entries-append f 0 (take i states) (get_or states i Idle ∷ []),
-      append-nil (f i (get_or states i Idle)),
-    )
+halt_entries-more f states i inside = search (
+  arith,
+  length-take i states,
+  take_more states i Idle inside,
+  halt_entries-append f 0 (take i states) (get_or states i Idle ∷ []),
+  append-nil (f i (get_or states i Idle)),
+)
 
 -- the entries of one halt more
 pub entries-more : (f : ℕ → ClientState → List Entry) (states : List ClientState) (begun : List Entry) (i : ℕ)
@@ -128,12 +118,9 @@ steps-next {heard} {slot} stepped =
     record {
       timed = record {
         past = λ c any before below.
-            set-at (λ (n : ℕ) (x : Client). IsTimed slot x) (set_place cs i c next any) (λ same. inside) own.timed
+            set-at (λ (n : ℕ) (x : Client). IsTimed slot x) cs i c next any (λ same. inside) own.timed
             (λ other. to.timed.past c any (omega (arith, before, other)) (omega (arith, below, length-set cs i next)));
-        later = λ c any from below.
-            let other : c ≡ i → ⊥ = λ same. absurd (omega (arith, same, from)) in
-            subst (IsTimed heard) (sym (get_or-set_other cs i c next any other))
-            (to.timed.later c any (omega (arith, from)) (omega (arith, below, length-set cs i next)));
+        later = search (arith, length-set cs i next, get_or-set_other);
       };
       sent_is = grind (arith, common_steps);
       swept = subst (IsSwept (after_sending slot) (i + 1) (map state_of old))
@@ -155,55 +142,26 @@ pub record AreEndedTo (which : HaltedPlays) (slot upto : ℕ) (begun entries : L
 written : {X : Type 0} → (n : ℕ) (es xs : List X) → length es ≡ n → take n (es ++ drop (length es) xs) ≡ es
 written n es xs same = take_at es (drop (length es) xs) n same
 
--- a slot as it is taken: all clients are stepped, and then the plays that are done are halted
-pub record SlotSwept (entries : List Entry) (old : List Client) (heard slot : ℕ) : Type 0 where
-  pub n : ℕ
-  pub ys : List Entry
-  pub xs : List Client
-  pub ds : List Client
-  pub zs : List Client
-  pub es : List Client
-  pub sent : ℕ
-  pub count : n ≡ length old
-  pub same : xs ≡ old
-  pub written : zs ≡ take n (ds ++ drop (length ds) old)
-  pub le : heard ≤ slot
-  pub timed : AreTimed heard old
-  pub stepped : (h : ℕ) → h ≤ slot → AreTimed h xs → AreSteps h slot xs ds sent
-  pub ended : (s : ℕ) → AreTimed s zs → ys ≡ entries ++ halt_entries (done_halt s) 0 (map state_of zs)
-  pub left : (s : ℕ) → AreTimed s zs → map state_of es ≡ map (after_play s) (map state_of zs)
-  pub quiet : halt_entries (done_halt slot) 0 (map (after_sending slot) (map state_of old))
-      ≡ halt_entries (done_halt slot) 0 (map state_of old)
-
 -- clients whose states follow from those of others are as many
 as-many : (f : ClientState → ClientState) (old new : List Client) → map state_of new ≡ map f (map state_of old)
     → length new ≡ length old
 as-many f old new are = grind (arith, common_steps)
 
--- a day at a slot
-pub slot-moment : {entries : List Entry} {old : List Client} {heard slot : ℕ} (swept : SlotSwept entries old heard slot)
+-- a slot as it is taken: all clients are stepped, and then the plays that are done are halted
+pub slot-moment : {ys : List Entry} {old xs zs : List Client} {n heard slot : ℕ} (entries : List Entry)
+    (ds es : List Client) (sent : ℕ)
+    → n ≡ length old → xs ≡ old → zs ≡ take n (ds ++ drop (length ds) old) → heard ≤ slot → AreTimed heard old
+    → ((h : ℕ) → h ≤ slot → AreTimed h xs → AreSteps h slot xs ds sent)
+    → ((s : ℕ) → AreTimed s zs → ys ≡ entries ++ halt_entries (done_halt s) 0 (map state_of zs))
+    → ((s : ℕ) → AreTimed s zs → map state_of es ≡ map (after_play s) (map state_of zs))
+    → halt_entries (done_halt slot) 0 (map (after_sending slot) (map state_of old))
+    ≡ halt_entries (done_halt slot) 0 (map state_of old)
     → record {
-      entries = swept.ys;
-      states = map state_of (take swept.n
-          (swept.es ++ drop (length swept.es) (take swept.n (swept.ds ++ drop (length swept.ds) old))));
+      entries = ys;
+      states = map state_of (take n (es ++ drop (length es) (take n (ds ++ drop (length ds) old))));
       heard = slot;
     } ≡ at_slot (record { entries = entries; states = map state_of old; heard = heard }) slot
-slot-moment {entries} {old} {heard} {slot} swept =
-    let steps = stepped heard le (subst (AreTimed heard) (sym x) timed) in
-    let d-states : map state_of ds ≡ map (after_sending slot) (map state_of old) = grind arith in
-    let d-len : length ds ≡ n = as-many (after_sending slot) old ds d-states ∙ sym len in
-    let z-is : zs ≡ ds = z ∙ written n ds old d-len in
-    let now : AreTimed slot zs = subst (AreTimed slot) (sym z-is) steps.timed in
-    let states : map state_of zs ≡ map (after_sending slot) (map state_of old) = ap (map state_of) z-is ∙ d-states in
-    let y : ys ≡ entries ++ halt_entries (done_halt slot) 0 (map state_of old) = grind arith in
-    let e-len : length es ≡ n = as-many (after_play slot) zs es (left slot now) ∙ ap length z-is ∙ d-len in
-    let last = take n (es ++ drop (length es) (take n (ds ++ drop (length ds) old))) in
-    let s : map state_of last ≡ map (after_play slot) (map (after_sending slot) (map state_of old)) =
-    ap (map state_of) (written n es (take n (ds ++ drop (length ds) old)) e-len) ∙ left slot now
-    ∙ ap (map (after_play slot)) states in
-    cc (y, s)
-  where
-    open swept use {n, ys, ds, zs, es, count as len, same as x, written as z, le, timed, stepped, ended, left, quiet}
+slot-moment entries ds es sent count same zs-are le timed stepped ended left quiet = search (arith, as-many, written)
 
 -- ---- the plays of clients that are halted one after the other
 -- the plays of the clients before a place were halted where this is asked for, and all is sound
@@ -211,8 +169,7 @@ pub record AreHaltedTo (which : HaltedPlays) (upto : ℕ) (begun book : Journal)
   pub sound : AreOnBook book.entries new
   pub kept : IsSameBook begun book
   pub undone : AreUndone upto new
-  pub ended : (slot : ℕ) → AreTimed slot old
-      → AreEndedTo which slot upto begun.entries book.entries old new
+  pub ended : (slot : ℕ) → AreTimed slot old → AreEndedTo which slot upto begun.entries book.entries old new
 
 -- what halts leave of a book but its entries
 pub record BookGrown (before after : Journal) (made : List Entry) : Type 0 where
@@ -267,10 +224,7 @@ passed-booked passed sound = by-halt halt its grown.entries
     by-halt : (h : Option Halt) → IfSome h (IsHaltOf (get_or cs place none))
         → after.entries ≡ before.entries ++ halts_of place h
         → AreBooked after.entries (set cs place (halted_client h (get_or cs place none)))
-    by-halt None its is =
-        subst (λ (l : List Entry). AreBooked l (set cs place (get_or cs place none)))
-        (sym (is ∙ append-nil before.entries))
-        (booked-same before.entries cs place (get_or cs place none) (sound.booked.each place none inside) sound.booked)
+    by-halt None its is = search (arith, append-nil before.entries, booked-same)
     by-halt (Some h) its is =
         let own = open-halt (get_or cs place none) (record {
           going = sound.going.each place none inside;
@@ -303,9 +257,7 @@ passed-ended {which} {old} passed begun slot to =
     let halts = halt_for which slot in
     record {
       timed = timed-set slot cs place next (halted-keeps (IsTimed slot) halt client tt timed) to.timed;
-      entries_are = grown.entries ∙ ap (λ es. es ++ halts_of place halt) to.entries_are
-          ∙ ap (λ es. (begun ++ halt_entries halts 0 (take place (map state_of old))) ++ es)
-          (sym (ap (halts place) is ∙ has slot timed)) ∙ entries-more halts (map state_of old) begun place within;
+      entries_are = search (arith, entries-more);
       swept = subst (IsSwept (state_for which slot) (place + 1) (map state_of old))
           (ap (set (map state_of cs) place) (ap (state_for which slot) is ∙ goes slot timed)
           ∙ sym (states-set cs place next)) (swept-set within to.swept);
@@ -323,19 +275,11 @@ passed-next {which} {begun} {old} passed to =
     let client = get_or cs place none in
     let next = next_of passed in
     record {
-      sound = record {
-        going = going-set cs place next
-            (halted-keeps IsGoing halt client tt (to.sound.going.each place none inside)) to.sound.going;
-        booked = passed-booked passed to.sound;
-      };
-      kept = record {
-        steps = grown.steps ∙ to.kept.steps;
-        limit = grown.limit ∙ to.kept.limit;
-        now = passed-now place before.entries after.entries halt grown.entries ∙ to.kept.now;
-      };
+      sound = search (arith, passed-booked passed to.sound, going-set);
+      kept = search (passed-now place before.entries after.entries halt grown.entries);
       undone = record {
         each = λ c any below.
-            set-at (λ (n : ℕ) (x : Client). IsUndone x) (set_place cs place c next any) (λ same. inside)
+            set-at (λ (n : ℕ) (x : Client). IsUndone x) cs place c next any (λ same. inside)
             (halted-undone halt client undone) (λ other. to.undone.each c any (omega (arith, below, other)));
       };
       ended = λ slot timed. passed-ended passed begun.entries slot (to.ended slot timed);

@@ -1,30 +1,31 @@
-use Rattle.std.proofs.lemmas.Grind.{common_steps}
 -- A day after one more entry of its journal.
-use Rattle.std.proofs.Common.{◌≡◌, ◌<◌, ◌≤◌, ℕ, true, List, [], ◌∷◌, ◌++◌, length, get_or, set, Option, Some, IsSomeAnd}
-use Rattle.std.proofs.Common.{arith, sym, ap, subst, ◌∙◌, max, refl}
-use Rattle.std.proofs.lemmas.List.{length-append, get_or_append_left, length-set, get_or_push}
+use Rattle.std.proofs.Common.{arith, ◌≡◌, ◌<◌, ℕ, List, length, set, get_or, ◌≤◌, [], ◌∷◌, ◌++◌, sym, ap, subst, ◌∙◌}
+use Rattle.std.proofs.Common.{max}
+use Rattle.std.proofs.lemmas.Grind.{common_steps}
+use Rattle.std.proofs.lemmas.List.{length-append, get_or_append_left, length-set}
 use Rattle.plan_cert.specs.PlanSlots.{total_bytes}
 use Rattle.admission.specs.declared.entries.Command.TheVariants.{Halt, Play, Look}
 use Rattle.admission.specs.declared.entries.Entry.{Entry}
 use Rattle.admission.specs.Histories.{Halts, state_after}
-use Rattle.admission.specs.Machine.{CanHalt, AdmittedPlay, State, play_numbered, next_state}
+use Rattle.admission.specs.Machine.{CanHalt, State, next_state}
 use Rattle.admission.proofs.PlayLookup.{found-next}
-use Rattle.admission.proofs.Halts.{halting}
-use Rattle.admission.proofs.HistoryPrefixes.{next_of, state-push}
-use Rattle.day_run.proofs.ListUpdates.{set-at, set_place}
+use Rattle.admission.proofs.HistoryPrefixes.{state-push}
 use Rattle.day_run.specs.declared.clients.Client.{Client}
 use Rattle.day_run.specs.declared.clients.Client.TheVariants.{Playing}
 use Rattle.day_run.specs.Clients.{AreBooked, AreGoing, AreTimed, AreUndone, IsBooked, IsGoing, IsOpenOf, IsQuiet}
 use Rattle.day_run.specs.Clients.{IsTimed, IsUndone, IsHaltOf, IsPlaying}
 use Rattle.plan_cert.specs.declared.Segment.{Segment}
 use Rattle.admission.specs.declared.entries.Answer.{Answer}
-use Rattle.admission.specs.declared.entries.Answer.TheVariants.{Admitted}
-use Rattle.admission.specs.declared.entries.Command.{Command}
 use Rattle.day_run.specs.declared.clients.Client.TheVariants as clients
 use Rattle.day_run.specs.declared.clients.Halt.{Halt as ClientHalt}
 use Rattle.day_run.specs.declared.clients.ClientPlay.{ClientPlay}
 use Rattle.day_run.specs.MachineState.{IsDayMachine, IsSoundDay}
 use Rattle.day_run.specs.declared.machine.DayMachine.{DayMachine}
+
+-- the element that is set, and the others as before
+pub set-at : {X : Type 0} (P : ℕ → X → Type 0) (xs : List X) (c d : ℕ) (x none : X) → (d ≡ c → c < length xs) → P c x
+    → ((d ≡ c → ⊥) → P d (get_or xs d none)) → P d (get_or (set xs c x) d none)
+set-at P xs c d x none inside own other = grind (arith, common_steps)
 
 -- ---- the plays that a book has open for the clients of a day, after one more entry
 -- an entry halts none but a client's plays
@@ -34,22 +35,7 @@ pub record HaltsNone (xs : List Entry) (client : ℕ) (e : Entry) : Type 0 where
 -- an entry that doesn't halt a client's play leaves it open
 booked-push : (xs : List Entry) (c : ℕ) (client : Client) (e : Entry) → HaltsNone xs c e → IsBooked xs c client
     → IsBooked (xs ++ e ∷ []) c client
-booked-push xs c (Playing play) e none its =
-    let bytes = total_bytes play.plan in
-    let h = halting (state_after xs) play.number bytes its.can in
-    let still : play_numbered play.number (next_of (state_after xs) (length xs) e).held ≡ Some h.held =
-    found-next (length xs) e.command e.answer
-    (record { is = h.is; unhalted = λ halts. none.apart play.number halts its.maker }) in
-    let P : Option AdmittedPlay → Type 0 =
-    λ o. IsSomeAnd o (λ (h : AdmittedPlay). (h.is_open ≡ true) × (bytes ≤ total_bytes h.play.segments)) in
-    let can : CanHalt (next_of (state_after xs) (length xs) e) play.number bytes = grind (arith, common_steps) in
-    record {
-      inside = omega (arith, length-append xs (e ∷ []), its.inside);
-      maker = λ none. ap (λ (x : Entry). x.maker) (get_or_append_left xs (e ∷ []) none play.number its.inside)
-          ∙ its.maker none;
-      can = subst (λ (s : State). CanHalt s play.number bytes) (sym (state-push xs e)) can;
-    }
-booked-push xs c _ e none booked = tt
+booked-push xs c client e given given' = search (arith, found-next, length-append, get_or_append_left, state-push)
 
 -- an entry that halts nothing
 pub booked-more : (xs : List Entry) (clients : List Client) (e : Entry)
@@ -70,7 +56,11 @@ each-set : (P : ℕ → Client → Type 0) (clients : List Client) (c : ℕ) (cl
     → AreEach (λ (d : ℕ) (x : Client). (d ≡ c → ⊥) → P d x) clients → AreEach P (set clients c client)
 each-set P clients c client own others d none inside =
     let within : d < length clients = omega (arith, inside, length-set clients c client) in
-    set-at P (set_place clients c d client none) (λ same. omega (arith, same, within)) own (others d none within)
+    set-at P clients c d client none (λ same. omega (arith, same, within)) own (others d none within)
+
+each-kept : (P : ℕ → Client → Type 0) (clients : List Client) (c : ℕ) (client : Client) → P c client → AreEach P clients
+    → AreEach P (set clients c client)
+each-kept P clients c client own each = each-set P clients c client own (λ d none inside other. each d none inside)
 
 -- clients whose plays a book has open
 pub record BookedClients : Type 0 where
@@ -79,9 +69,8 @@ pub record BookedClients : Type 0 where
   pub booked : AreBooked xs clients
 
 -- a client is put in the place of one, whose play alone an entry may halt
-booked-set : (on : BookedClients) (c : ℕ) (client : Client) (e : Entry)
-    → ((d : ℕ) → (d ≡ c → ⊥) → HaltsNone on.xs d e) → IsBooked (on.xs ++ e ∷ []) c client
-    → AreBooked (on.xs ++ e ∷ []) (set on.clients c client)
+booked-set : (on : BookedClients) (c : ℕ) (client : Client) (e : Entry) → ((d : ℕ) → (d ≡ c → ⊥) → HaltsNone on.xs d e)
+    → IsBooked (on.xs ++ e ∷ []) c client → AreBooked (on.xs ++ e ∷ []) (set on.clients c client)
 booked-set on c client e others own = record {
   each = each-set (IsBooked (on.xs ++ e ∷ [])) on.clients c client own (λ d none inside other.
       booked-push on.xs d (get_or on.clients d none) e (others d other) (on.booked.each d none inside));
@@ -113,39 +102,28 @@ booked-halt on c client halt quiet =
 -- one client is put in the place of another
 pub going-set : (clients : List Client) (c : ℕ) (client : Client) → IsGoing client → AreGoing clients
     → AreGoing (set clients c client)
-going-set clients c client own going = record {
-  each = each-set (λ (n : ℕ) (x : Client). IsGoing x) clients c client own
-      (λ d none inside other. going.each d none inside);
-}
+going-set clients c client own going =
+    record { each = each-kept (λ (n : ℕ) (x : Client). IsGoing x) clients c client own going.each }
 
 pub undone-set : (clients : List Client) (c : ℕ) (client : Client) → IsUndone client
     → AreUndone (length clients) clients → AreUndone (length (set clients c client)) (set clients c client)
-undone-set clients c client own undone = record {
-  each = each-set (λ (n : ℕ) (x : Client). IsUndone x) clients c client own
-      (λ d none inside other. undone.each d none inside);
-}
+undone-set clients c client own undone =
+    record { each = each-kept (λ (n : ℕ) (x : Client). IsUndone x) clients c client own undone.each }
 
 pub booked-same : (xs : List Entry) (clients : List Client) (c : ℕ) (client : Client) → IsBooked xs c client
     → AreBooked xs clients → AreBooked xs (set clients c client)
-booked-same xs clients c client own booked = record {
-  each = each-set (IsBooked xs) clients c client own (λ d none inside other. booked.each d none inside);
-}
+booked-same xs clients c client own booked =
+    record { each = each-kept (IsBooked xs) clients c client own booked.each }
 
 pub timed-set : (heard : ℕ) (clients : List Client) (c : ℕ) (client : Client) → IsTimed heard client
     → AreTimed heard clients → AreTimed heard (set clients c client)
-timed-set heard clients c client own timed = record {
-  each = each-set (λ (n : ℕ) (x : Client). IsTimed heard x) clients c client own
-      (λ d none inside other. timed.each d none inside);
-}
+timed-set heard clients c client own timed =
+    record { each = each-kept (λ (n : ℕ) (x : Client). IsTimed heard x) clients c client own timed.each }
 
 -- ---- a day after one more entry of its journal
 now-halt : (state : State) (place number keep : ℕ) (answer : Answer)
     → (next_state state place (Halt number keep) answer).now ≡ state.now
 now-halt state place number keep answer = grind arith
-
-now-play : (state : State) (place slot : ℕ) (segments : List Segment) (answer : Answer)
-    → (next_state state place (Play slot segments) answer).now ≤ max state.now slot
-now-play state place slot segments answer = grind arith
 
 -- the machine's now after an entry of a halt
 pub halted-now : (xs : List Entry) (e : Entry) (number keep : ℕ) → e.command ≡ Halt number keep
@@ -160,10 +138,6 @@ pub looked-now : (xs : List Entry) (e : Entry) (slot : ℕ) → e.command ≡ Lo
     → (state_after (xs ++ e ∷ [])).now ≡ (state_after xs).now
 looked-now xs e slot is = grind (arith, state-push xs e)
 
-can-fewer : (state : State) (number bytes keep : ℕ) → keep ≤ bytes → CanHalt state number bytes
-    → CanHalt state number keep
-can-fewer state number bytes keep le can = grind arith
-
 -- a client that goes on soundly, whose play the book has open
 pub record IsOnBook (xs : List Entry) (c : ℕ) (client : Client) : Type 0 where
   pub going : IsGoing client
@@ -172,15 +146,7 @@ pub record IsOnBook (xs : List Entry) (c : ℕ) (client : Client) : Type 0 where
 -- the play of a client that is halted so
 pub open-halt : {xs : List Entry} {c : ℕ} {halt : ClientHalt} (client : Client) → IsOnBook xs c client
     → IsHaltOf client halt → IsOpenOf xs c halt.number halt.keep
-open-halt {xs} {c} {halt} (clients.Playing play) own is =
-    subst (λ (n : ℕ). IsOpenOf xs c n halt.keep) (sym is.0) (record {
-      inside = own.booked.inside;
-      maker = own.booked.maker;
-      can = can-fewer (state_after xs) play.number (total_bytes play.plan) halt.keep
-          (omega (arith, is.1, own.going.whole))
-          own.booked.can;
-    })
-open-halt {c} {halt} _ own is = absurd is
+open-halt client given given' = search arith
 
 -- ---- a day after one more entry
 -- a client is put in the place of one, and the journal goes on

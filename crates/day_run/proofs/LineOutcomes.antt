@@ -1,45 +1,41 @@
-use Rattle.std.proofs.lemmas.Grind.{common_steps}
 -- What a line of a script, or a turn's client, does to a day, in five cases, and that it keeps the balance.
+use Rattle.std.proofs.lemmas.Grind.{common_steps}
 use Rattle.std.proofs.Common.{◌≡◌, ◌<◌, ◌≤◌, ◌%◌, ◌+◌, ◌++◌, ℕ, List, [], ◌∷◌, get_or, subst, refl, sym, ap, ◌∙◌, inl}
-use Rattle.std.proofs.Common.{inr, arith, zero, suc, length, map, replicate, Option, Some, min, None, false}
-use Rattle.std.proofs.lemmas.List.{append-nil, append_assoc, get_or-replicate, length-map, length-set, length-replicate}
+use Rattle.std.proofs.Common.{map, ◌*◌, inr, arith, length, replicate, Option, Some, None, false}
+use Rattle.std.proofs.lemmas.List.{append-nil, get_or-replicate, length-append, length-set}
 use Rattle.admission.specs.declared.entries.Entry.{Entry}
-use Rattle.film_make.specs.Generator.{words_after}
 use Rattle.day_script.specs.declared.scripts.Line.{Line}
 use Rattle.day_script.specs.declared.scripts.Line.TheVariants as lines
-use Rattle.day_script.specs.Scripts.{slot_after}
+use Rattle.day_script.specs.Scripts.{AreClients, AreLines, slot_after}
+use Rattle.plan_cert.specs.declared.Segment.{Segment}
+use Rattle.plan_cert.specs.PlanSlots.{total_bytes}
 use Rattle.day_run.specs.declared.fairs.TheConstants.{BUFFER_SIZES, LEAST_BUFFER}
-use Rattle.day_run.specs.ClientStates.{ClientPlay, ClientState, Idle, Playing, Pausing, Paused, Rest, after_play}
-use Rattle.day_run.specs.ClientStates.{after_sending}
+use Rattle.day_run.specs.ClientStates.{ClientPlay, ClientState, Idle, Playing, Pausing, Paused, Rest, booking_of}
+use Rattle.day_run.specs.ClientStates.{sent_by}
 use Rattle.day_run.specs.Days.{first_moment, DayState, IsAnsweredLook, IsAnsweredPlay, IsAsked, IsHaltedPlay, IsLine}
-use Rattle.day_run.specs.Days.{IsOfferLine, IsPauseLine, IsResumeLine, SharedLink, at_slot, halts_at}
-use Rattle.day_run.specs.Days.{rest_at, AskedPlay, booked_up_to, entry_by, sent_up_to, with_play}
-use Rattle.day_run.specs.FairDays.{FairTurn, IsDone, IsTurn, line_drawn, client_of, is_full_line}
-use Rattle.day_run.proofs.ScriptLines.{IsPlayTaken, LineRun, LineStep, LinesTaken, StandingLine}
-use Rattle.day_run.proofs.ScriptLines.{first-standing, head_step, rest-standing, run_of}
-use Rattle.day_run.proofs.SentBookedLemmas.{BalancedClient, IsFree, idle-free, paused-free, IsShut, balanced-halt}
-use Rattle.day_run.proofs.SentBookedLemmas.{balanced-play, balanced-same, balanced-sent, playing_one}
-use Rattle.std.specs.Prelude.{sum_by}
-use Rattle.std.proofs.lemmas.List.Elements.{All-nil}
-use Rattle.std.proofs.lemmas.List.Sums.{sum_by-cons}
-use Rattle.slot_calendar.specs.Plays.{truncated_play}
+use Rattle.day_run.specs.Days.{IsOfferLine, IsPauseLine, IsResumeLine, SharedLink, at_slot, rest_at, AskedPlay}
+use Rattle.day_run.specs.Days.{booked_up_to, entry_by, sent_up_to, with_play, IsFull, IsTold, slot_lines, halts_at}
+use Rattle.day_run.specs.Days.{AreLineSteps, halt_by}
+use Rattle.day_run.specs.FairDays.{IsDone, line_drawn, is_full_line}
+use Rattle.day_run.proofs.ScriptLines.{IsPlayTaken, LineRun, LineStep, StandingLine, first-standing, head_step}
+use Rattle.day_run.proofs.ScriptLines.{rest-standing, run_of, pausing-cases}
+use Rattle.day_run.proofs.SentBookedLemmas.{BalancedClient, IsFree, idle-free, paused-free, IsShut, HeldClient}
+use Rattle.day_run.proofs.SentBookedLemmas.{balanced-play, balanced-same, balanced-sent, its-held}
+use Rattle.std.specs.Prelude.{◌⊎◌}
+use Rattle.slot_calendar.specs.Plays.{booked_by, truncated_play}
 use Rattle.admission.specs.declared.entries.Answer.{Answer}
 use Rattle.admission.specs.declared.entries.Answer.TheVariants.{Admitted}
 use Rattle.admission.specs.declared.entries.Command.TheVariants as commands
-use Rattle.admission.specs.Machine.{AdmittedPlay, State}
+use Rattle.admission.specs.Books.{places_taken}
+use Rattle.admission.specs.Histories.{IsAnswered, booked_after, state_after}
+use Rattle.admission.specs.Machine.{AdmittedPlay, CanHalt, State, live, next_state}
 use Rattle.admission.proofs.HistoryPrefixes.{state-push}
 use Rattle.day_run.specs.BookingBalance.{AreHeldOf, IsReady, share_of}
-use Rattle.day_run.proofs.JournalHalts.{none-halted}
-use Rattle.day_run.proofs.SlotBalance.{pausing-share, slot-halted}
-use Rattle.day_run.proofs.PauseLemmas.{pausing-cases}
+use Rattle.day_run.proofs.SlotBalance.{IsHaltedAt, halted-step, pausing-share, slot-halted}
 use Rattle.day_run.specs.JournalLaws.{places_needed}
 use Rattle.early_start.specs.declared.Tried.{Tried}
 use Rattle.wire_curve.specs.declared.film.CurveFault.{CurveFault}
-use Rattle.wire_curve.specs.declared.film.CurveFault.TheVariants.{NoPictures}
-use Rattle.vod_base.specs.declared.links.TheConstants.{LATEST_SLOT}
-use Rattle.std.specs.Prelude.{◌⊎◌}
 use Rattle.film_run.specs.Plans.{IsPlanOf}
-use Rattle.day_run.specs.Days.{IsFull, IsTold, slot_lines}
 use Rattle.day_script.specs.LineTexts.{fault_text, offer_text}
 
 -- ---- what a line of a script, or a turn's client, does to a day, in five cases
@@ -98,24 +94,8 @@ pub data LineOutcome (step : LineStep) (case : LineCase) : Type 0 where
   Reached : SlotReached step case.maker case.slot → LineOutcome step case
 
 -- the last slot is then this one
-pub outcome-heard : {case : LineCase} (step : LineStep)
-    → LineOutcome step case → step.new.heard ≡ case.slot
+pub outcome-heard : {case : LineCase} (step : LineStep) → LineOutcome step case → step.new.heard ≡ case.slot
 outcome-heard step given = grind arith
-
--- ---- a journal only grows
-pub record HasGrown (old new : List Entry) : Type 0 where
-  pub made : List Entry
-  pub new_is : new ≡ old ++ made
-
-pub kept-grown : (old new : DayState) → new ≡ old → HasGrown old.entries new.entries
-kept-grown old new kept = grind (arith, common_steps)
-
-pub grown-on : (a b c : List Entry) → HasGrown a b → HasGrown b c → HasGrown a c
-grown-on a b c one two = grind (arith, common_steps)
-
-pub outcome-grown : {case : LineCase} (step : LineStep)
-    → LineOutcome step case → HasGrown step.old.entries step.new.entries
-outcome-grown step given = grind (arith, kept-grown)
 
 -- ---- the lines
 fault-other : (fault : CurveFault) → is_full_line (fault_text fault) ≡ false
@@ -139,53 +119,28 @@ abbrev pub client_case : LineStep → (Rest → Type 0) → ℕ → LineCase
 client_case step Plays c = record { Plays = Plays; maker = Some c; places = 2; slot = step.old.heard }
 
 -- a client asks for a play of such a rest
-record PlayAsk : Type 1 where
-  Plays : Rest → Type 0
-  c : ℕ
-  rest : Rest
-  plays : Plays rest
-
-asked-outcome : (step : LineStep) (ask : PlayAsk) → IsFree (get_or step.old.states ask.c Idle)
-    → IsAsked step.link ask.c ask.rest step.old step.new step.text
-    → LineOutcome step (client_case step ask.Plays ask.c)
-asked-outcome step ask free (inl faulty) = told-kept step faulty.told (fault-other faulty.fault) refl
-asked-outcome step ask free (inr planned) = elim planned.done [
-  | inl full ↦ full-kept step full refl
-  | inr made ↦
-      Asked (record {
-        ask = record { client = ask.c; rest = ask.rest; plan = planned.plan };
-        by = refl;
-        free = free;
-        plays = ask.plays;
-        plan_is = planned.plan_is;
-        made = made;
-      }) refl
-]
-
-play-outcome : {state : ClientState} (step : LineStep) (ask : PlayAsk) → get_or step.old.states ask.c Idle ≡ state
-    → IsPlayTaken step ask.c ask.rest state → LineOutcome step (client_case step ask.Plays ask.c)
-play-outcome {state = Idle} step ask at is = asked-outcome step ask (idle-free at) is
-play-outcome {state = Paused left} step ask at is = asked-outcome step ask (paused-free at) is
-play-outcome {state = _} step ask at is = told-kept step is refl refl
-
--- a client's state, and that its rest may be sent where it is paused
-record ClientRests (step : LineStep) (Plays : Rest → Type 0) (c : ℕ) (state : ClientState) : Type 0 where
-  at : get_or step.old.states c Idle ≡ state
-  plays : (rest : Rest) → state ≡ Paused rest → Plays rest
-
-resume-outcome : {Plays : Rest → Type 0} {c : ℕ} {state : ClientState} (step : LineStep)
-    → ClientRests step Plays c state → IsResumeLine step.link c state step.old step.new step.text
+asked-outcome : {Plays : Rest → Type 0} {c : ℕ} {rest : Rest} (step : LineStep) → Plays rest
+    → IsFree (get_or step.old.states c Idle) → IsAsked step.link c rest step.old step.new step.text
     → LineOutcome step (client_case step Plays c)
-resume-outcome {Plays} {c} {state = Paused rest} step own is =
-    asked-outcome step (record { Plays = Plays; c = c; rest = rest; plays = own.plays rest refl }) (paused-free own.at)
-    is
-resume-outcome {state = _} step own is = told-kept step is refl refl
+asked-outcome step given given' given'' = search (arith, fault-other)
+
+play-outcome : {Plays : Rest → Type 0} {c : ℕ} {state : ClientState} (step : LineStep) (rest : Rest) → Plays rest
+    → get_or step.old.states c Idle ≡ state → IsPlayTaken step c rest state
+    → LineOutcome step (client_case step Plays c)
+play-outcome {state = Idle} step rest plays at is = asked-outcome step plays (idle-free at) is
+play-outcome {state = Paused left} step rest plays at is = asked-outcome step plays (paused-free at) is
+play-outcome {state = _} step rest plays at is = told-kept step is refl refl
+
+resume-outcome : {c : ℕ} {state : ClientState} (step : LineStep) → get_or step.old.states c Idle ≡ state
+    → IsResumeLine step.link c state step.old step.new step.text
+    → LineOutcome step (client_case step (λ (rest : Rest). get_or step.old.states c Idle ≡ Paused rest) c)
+resume-outcome {state = Paused rest} step at is = asked-outcome step at (paused-free at) is
+resume-outcome {state = _} step at is = told-kept step is refl refl
 
 pause-outcome : {Plays : Rest → Type 0} {c : ℕ} {state : ClientState} (step : LineStep)
     → get_or step.old.states c Idle ≡ state → IsPauseLine step.link c state step.old step.new step.text
     → LineOutcome step (client_case step Plays c)
-pause-outcome {c} {state = Playing play} step at is = grind arith
-pause-outcome {state = _} step at is = told-kept step is refl refl
+pause-outcome step given given' = search arith
 
 pub offer-kept : {rest : Rest} {wait : ℕ} (step : LineStep)
     → IsOfferLine step.link rest wait step.old step.new step.text → step.new ≡ step.old
@@ -216,11 +171,9 @@ case_of step line = record {
 pub line-outcome : (step : LineStep) (line : Line) → IsLine step.link line step.old step.new step.text
     → LineOutcome step (case_of step line)
 line-outcome step (lines.Play c source buffer delay) is =
-    let line = lines.Play c source buffer delay in
-    play-outcome step
-    (record { Plays = PlaysBy step line; c = c; rest = rest_at step.link source buffer delay; plays = refl }) refl is
+    play-outcome step (rest_at step.link source buffer delay) refl refl is
 line-outcome step (lines.Pause c) is = pause-outcome step refl is
-line-outcome step (lines.Resume c) is = resume-outcome step (record { at = refl; plays = λ rest at. at }) is
+line-outcome step (lines.Resume c) is = resume-outcome step refl is
 line-outcome step (lines.Look slot) (inl full) = full-kept step full refl
 line-outcome step (lines.Look slot) (inr made) = grind arith
 line-outcome step (lines.Slot slot) is = Reached (record { by = refl; is = is.0; text_is = is.1 })
@@ -245,76 +198,85 @@ pub line-order : {n : ℕ} (step : LineStep) (line : Line) → StandingLine step
 line-order step line given = grind arith
 
 -- the lines after the first of those that are taken
-abbrev pub rest_run : {line : Line} {lines : List Line} {text : List ℕ} {texts : List (List ℕ)}
-    → LineRun (line ∷ lines) (text ∷ texts) → LineRun lines texts
+abbrev pub rest_run : {link : SharedLink} {n : ℕ} {line : Line} {lines : List Line} {text : List ℕ}
+    {texts : List (List ℕ)} → LineRun link n (line ∷ lines) (text ∷ texts) → LineRun link n lines texts
 rest_run {line} taken = record {
-  link = taken.link;
-  n = taken.n;
   old = taken.run.0;
   new = taken.new;
-  standing = rest-standing taken (outcome-heard (head_step taken) (line-outcome (head_step taken) line taken.run.1.0));
+  standing = rest-standing taken.standing
+      (outcome-heard (head_step taken) (line-outcome (head_step taken) line taken.run.1.0));
   run = taken.run.1.1;
 }
 
--- ---- what each line that may stand keeps, the lines of a script keep
-abbrev pub IsKeptByLines : SharedLink → ℕ → (DayState → Type 0) → Type 0
-IsKeptByLines link n P = (line : Line) (old new : DayState) (text : List ℕ) → StandingLine old.heard n line
-    → IsLine link line old new text → P old → P new
-
-pub run-keeps : (lines : List Line) (texts : List (List ℕ)) (taken : LineRun lines texts) (P : DayState → Type 0)
-    → IsKeptByLines taken.link taken.n P → P taken.old → P taken.new
-run-keeps [] [] taken P kept is = subst P (sym taken.run) is
-run-keeps (l ∷ ls) (t ∷ ts) taken P kept is =
-    run-keeps ls ts (rest_run taken) P kept
-    (kept l taken.old taken.run.0 t (first-standing taken.standing) taken.run.1.0 is)
-run-keeps _ _ taken P kept is = absurd taken.run
-
-pub taken-keeps : {link : SharedLink} {n : ℕ} (taken : LinesTaken link n) (P : DayState → Type 0)
-    → IsKeptByLines link n P → P first_moment → P taken.moment
-taken-keeps taken P kept is = run-keeps taken.lines taken.texts (run_of taken) P kept is
-
 -- ---- the turns of a large day
-abbrev pub ClientOutcome : LineStep → ℕ → Type 0
-ClientOutcome step client = LineOutcome step (client_case step (λ (rest : Rest). Unit {0}) client)
+pub record ClientOutcome (step : LineStep) (client : ℕ) : Type 1 where
+  pub Plays : Rest → Type 0
+  pub is : LineOutcome step (client_case step Plays client)
 
-pub done-outcome : {c : ℕ} {state : ClientState} (step : LineStep) (words : ℕ → ℕ)
-    → get_or step.old.states c Idle ≡ state
+pub done-outcome : {c : ℕ} (step : LineStep) (words : ℕ → ℕ) (state : ClientState)
     → IsDone step.link (line_drawn words c state) step.old step.new step.text → ClientOutcome step c
-done-outcome {c} {state = Idle} step words at is =
-    play-outcome step (record {
-      Plays = λ rest. Unit {0};
-      c = c;
-      rest = rest_at step.link (words 0 % 16) (LEAST_BUFFER + words 1 % BUFFER_SIZES) (words 2 % 26);
-      plays = tt;
-    }) refl is
-done-outcome {state = Playing play} step words at is = pause-outcome step refl is
-done-outcome {state = Pausing stop rest} step words at is = told-kept step is refl refl
-done-outcome {state = Paused rest} step words at is =
-    resume-outcome step (record { at = refl; plays = λ left is. tt }) is
-
--- a turn that was taken
-pub record TakenTurn : Type 0 where
-  pub link : SharedLink
-  pub words : ℕ → ℕ
-  pub turn : FairTurn
-  pub is : IsTurn link words turn
-
--- what its client does
-abbrev pub turn_step : TakenTurn → LineStep
-turn_step taken = record { link = taken.link; old = taken.turn.mid; new = taken.turn.new; text = taken.turn.text }
-
-pub turn-outcome : (taken : TakenTurn) → ClientOutcome (turn_step taken) (client_of taken.words)
-turn-outcome taken = done-outcome (turn_step taken) (words_after 2 taken.words) refl taken.is.done
+done-outcome {c} step words Idle is =
+    let line = lines.Play c (words 0 % 16) (LEAST_BUFFER + words 1 % BUFFER_SIZES) (words 2 % 26) in
+    record { Plays = PlaysBy step line; is = line-outcome step line is }
+done-outcome {c} step words (Playing play) is = record { Plays = λ rest. ⊥; is = line-outcome step (lines.Pause c) is }
+done-outcome {c} step words (Paused rest) is =
+    record { Plays = PlaysBy step (lines.Resume c); is = line-outcome step (lines.Resume c) is }
+done-outcome step words (Pausing stop rest) is = record { Plays = λ rest. ⊥; is = told-kept step is refl refl }
 
 pub client-order : {client : ℕ} (step : LineStep) → client < 256 → IsInOrder step (Some client) step.old.heard
 client-order step inside = record { inside = inside; later = omega arith }
 
-pub turn-order : (taken : TakenTurn) → IsInOrder (turn_step taken) (Some (client_of taken.words)) taken.turn.mid.heard
-turn-order taken = client-order (turn_step taken) (omega arith)
+-- ---- what a line leaves
+pub record HasGrown (old new : List Entry) : Type 0 where
+  pub made : List Entry
+  pub new_is : new ≡ old ++ made
 
--- ---- what the lines of a script leave of the balance between what is sent and what is booked
-pub ready-kept : (old new : DayState) → new ≡ old → IsReady old → IsReady new
-ready-kept old new kept ready = subst IsReady (sym kept) ready
+-- what is booked in the slots that were received stays
+abbrev Past : DayState → DayState → Type 0
+Past old new = (t : ℕ) → t ≤ old.heard → booked_after new.entries t ≡ booked_after old.entries t
+
+-- what so many lines leave at most: the balance between what is sent and what is booked, a journal that only grows, and
+-- places of it for the halts of its open plays
+pub record IsLeft (limit n : ℕ) (old new : DayState) : Type 0 where
+  pub ready : IsReady new
+  pub grown : HasGrown old.entries new.entries
+  pub later : old.heard ≤ new.heard
+  pub past : Past old new
+  pub few : places_taken new.entries ≤ places_taken old.entries + 2 * n
+  pub within : places_taken old.entries ≤ limit → places_taken new.entries ≤ limit
+
+pub left-kept : {limit n : ℕ} (old new : DayState) → new ≡ old → IsReady old → IsLeft limit n old new
+left-kept {limit} {n} old new kept ready =
+    subst (IsLeft limit n old) (sym kept) (record {
+      ready = ready;
+      grown = record { made = []; new_is = sym (append-nil old.entries) };
+      later = omega arith;
+      past = λ t past. refl;
+      few = omega arith;
+      within = λ fits. fits;
+    })
+
+pub left-on : {limit n m k : ℕ} {a b c : DayState} → n + m ≤ k → IsLeft limit n a b → IsLeft limit m b c
+    → IsLeft limit k a c
+left-on {a} most one two = record {
+  ready = two.ready;
+  grown = record { made = one.grown.made ++ two.grown.made; new_is = grind (arith, common_steps) };
+  later = omega (arith, one.later, two.later);
+  past = λ t past. two.past t (omega (arith, past, one.later)) ∙ one.past t past;
+  few = omega (arith, one.few, two.few, most);
+  within = λ fits. two.within (one.within fits);
+}
+
+left-halted : {limit n : ℕ} (old new : DayState) → length new.states ≡ 256 → HasGrown old.entries new.entries
+    → old.heard ≤ new.heard → IsHaltedAt new.heard old.entries new.entries new.states → IsLeft limit n old new
+left-halted old new count grown later halted = record {
+  ready = record { count = count; balanced = halted.balanced };
+  grown = grown;
+  later = later;
+  past = λ t past. halted.stays t (omega (arith, past, later));
+  few = omega (arith, halted.places);
+  within = λ fits. omega (arith, halted.places, fits);
+}
 
 -- a client of a day that plays nothing
 record IsFreeOf (old : DayState) (client : ℕ) : Type 0 where
@@ -357,84 +319,120 @@ halted_client own order ready = record {
   balanced = ready.balanced;
 }
 
-paused : {maker : Option ℕ} {slot : ℕ} (step : LineStep) (own : PlayHalted step maker) → IsInOrder step maker slot
-    → IsReady step.old → IsReady step.new
-paused step own order ready =
+-- the bytes that are kept are those of the plan at most
+pub kept-most : (entries : List Entry) (its : HeldClient entries) (keep : ℕ)
+    → CanHalt (state_after entries) its.play.number keep → keep ≤ total_bytes its.play.plan
+kept-most entries its keep can = grind arith
+
+left-stopped : {maker : Option ℕ} {slot : ℕ} (step : LineStep) (own : PlayHalted step maker)
+    → IsInOrder step maker slot → IsReady step.old → IsLeft step.link.limit 1 step.old step.new
+left-stopped step own order ready =
     let old = step.old in
     let stop = truncated_play play.start play.plan is.keep in
     let rest = record play.rest { run = is.pause.left } in
-    subst IsReady (sym is.noted.new_is) (record {
-      count = length-set old.states client is.state ∙ ready.count;
-      balanced = balanced-halt (halted_client own order ready) (record {
-        keep = is.keep;
-        next = is.state;
-        shut = subst IsShut (sym is.pause.state_is) (pausing-cases IsShut old.heard stop rest tt tt);
-        shares = λ t later.
-            ap (share_of t) is.pause.state_is ∙ pausing-share t old.heard stop rest later;
-      });
-    })
+    let at = halted_client own order ready in
+    let sent : sent_by (booking_of play) old.heard ≤ is.keep = grind arith in
+    subst (IsLeft step.link.limit 1 old) (sym is.noted.new_is) (left-halted old _
+    (length-set old.states client is.state ∙ ready.count)
+    (record { made = halt_by client play.number is.keep; new_is = refl }) (omega arith)
+    (halted-step at (record {
+      keep = is.keep;
+      next = is.state;
+      shut = subst IsShut (sym is.pause.state_is) (pausing-cases IsShut old.heard stop rest tt tt);
+      shares = λ t later. ap (share_of t) is.pause.state_is ∙ pausing-share t old.heard stop rest later;
+    }) (record { sent = sent; most = kept-most old.entries (its-held at) is.keep is.noted.answered })))
   where
     open own use {client, play, is}
 
-looked : {maker : Option ℕ} (step : LineStep) → LookAnswered step maker → IsReady step.old → IsReady step.new
-looked step own ready =
+left-looked : {maker : Option ℕ} (step : LineStep) → LookAnswered step maker → IsReady step.old
+    → IsLeft step.link.limit 1 step.old step.new
+left-looked step own ready =
     let old = step.old in
     let e = entry_by 0 (commands.Look own.slot) own.made.answer in
-    subst IsReady (sym own.made.noted.new_is) (record {
-      count = ready.count;
-      balanced = balanced-same old e (ap (λ (s : State). s.held) (state-push old.entries e)) refl ready.balanced;
+    let held = ap (λ (s : State). s.held) (state-push old.entries e) in
+    let most : places_taken (old.entries ++ e ∷ []) ≤ places_taken old.entries + 1 = grind
+    (arith, state-push, length-append) in
+    subst (IsLeft step.link.limit 1 old) (sym own.made.noted.new_is) (record {
+      ready = record { count = ready.count; balanced = balanced-same old e held refl ready.balanced };
+      grown = record { made = e ∷ []; new_is = refl };
+      later = omega arith;
+      past = λ t past. ap (λ hs. booked_by (map (λ (h : AdmittedPlay). h.play) hs) t) held;
+      few = omega (arith, most);
+      within = λ fits. omega (arith, most, own.made.room);
     })
 
-pub slot-ready : (old new : DayState) (slot : ℕ) → old.heard ≤ slot → new ≡ at_slot old slot → IsReady old → IsReady new
-slot-ready old new slot le is ready = grind (arith, common_steps, slot-halted old slot le ready.balanced)
+next-open : (state : State) (place slot : ℕ) (segments : List Segment) (answer : Answer)
+    → live (next_state state place (commands.Play slot segments) answer) ≤ live state + 1
+next-open state place slot segments answer = grind (arith, common_steps)
 
-pub outcome-ready : {case : LineCase} (step : LineStep)
-    → LineOutcome step case → IsInOrder step case.maker case.slot → IsReady step.old → IsReady step.new
-outcome-ready step (Kept own at) order ready = ready-kept step.old step.new own.kept ready
-outcome-ready step (Asked own at) order ready =
-    subst IsReady (sym own.made.noted.new_is)
-    (answered step.old own.made.answer own.ask
-    (record { inside = maker-inside own.ask.client order own.by; free = own.free }) ready)
-outcome-ready step (Stopped own at) order ready = paused step own order ready
-outcome-ready step (Looks own at) order ready = looked step own ready
-outcome-ready {case} step (Reached own) order ready = slot-ready step.old step.new case.slot order.later own.is ready
+answered-past : (answer : Answer) (link : SharedLink) (ask : AskedPlay) (old : DayState)
+    → IsAnswered link.steps (state_after old.entries) (entry_by ask.client (commands.Play old.heard ask.plan) answer)
+    → Past old (after_answer old ask answer)
+answered-past answer link ask old given = grind (arith, common_steps, state-push)
 
-idle-shares : (t n : ℕ) → sum_by (share_of t) (replicate n Idle) ≡ 0
-idle-shares t zero = refl
-idle-shares t (suc n) = omega (arith, idle-shares t n, sum_by-cons (share_of t) Idle (replicate n Idle))
+left-answered : {Plays : Rest → Type 0} {maker : Option ℕ} {slot : ℕ} (step : LineStep)
+    → PlayAnswered step Plays maker → IsInOrder step maker slot → IsReady step.old
+    → IsLeft step.link.limit 1 step.old step.new
+left-answered step own order ready =
+    let old = step.old in
+    let answer = own.made.answer in
+    let e = entry_by own.ask.client (commands.Play old.heard own.ask.plan) answer in
+    let most : places_taken (old.entries ++ e ∷ []) ≤ places_taken old.entries + 2 = grind
+    (arith, state-push, next-open, length-append) in
+    subst (IsLeft step.link.limit 1 old) (sym own.made.noted.new_is) (record {
+      ready = answered old answer own.ask
+          (record { inside = maker-inside own.ask.client order own.by; free = own.free }) ready;
+      grown = record { made = e ∷ []; new_is = refl };
+      later = omega arith;
+      past = answered-past answer step.link own.ask old own.made.noted.answered;
+      few = omega (arith, most);
+      within = λ fits. omega (arith, most, own.made.room);
+    })
 
-idle-plays : (n : ℕ) → sum_by playing_one (replicate n Idle) ≡ 0
-idle-plays zero = refl
-idle-plays (suc n) = omega (arith, idle-plays n, sum_by-cons playing_one Idle (replicate n Idle))
+pub slot-left : {limit n : ℕ} (old new : DayState) (slot : ℕ) → old.heard ≤ slot → new ≡ at_slot old slot
+    → IsReady old → IsLeft limit n old new
+slot-left {limit} {n} old new slot le is ready =
+    subst (IsLeft limit n old) (sym is) (left-halted old (at_slot old slot) (grind (arith, common_steps))
+    (record { made = halts_at old slot; new_is = refl }) le (slot-halted old slot le ready.balanced))
+
+pub outcome-left : {case : LineCase} (step : LineStep) → LineOutcome step case → IsInOrder step case.maker case.slot
+    → IsReady step.old → IsLeft step.link.limit 1 step.old step.new
+outcome-left step (Kept own at) order ready = left-kept step.old step.new own.kept ready
+outcome-left step (Asked own at) order ready = left-answered step own order ready
+outcome-left step (Stopped own at) order ready = left-stopped step own order ready
+outcome-left step (Looks own at) order ready = left-looked step own ready
+outcome-left {case} step (Reached own) order ready = slot-left step.old step.new case.slot order.later own.is ready
 
 idle-held : (c : ℕ) → c < 256 → AreHeldOf [] c (get_or (replicate 256 Idle) c Idle)
 idle-held c inside = subst (AreHeldOf [] c) (sym (get_or-replicate 256 c Idle Idle inside)) tt
 
 pub morning-ready : IsReady first_moment
-morning-ready = record {
-  count = length-replicate 256 Idle;
-  balanced = record {
-    each = λ t later. sym (idle-shares t 256);
-    held = λ c inside. idle-held c (omega (arith, inside, length-replicate 256 Idle));
-    fresh = All-nil (λ (h : AdmittedPlay). h.number < 0);
-    playing = sym (idle-plays 256);
-    halts = none-halted;
-  };
-}
+morning-ready = search (arith, idle-held)
 
 pub ready-sent : (m : DayState) (slot : ℕ) → m.heard ≤ slot → IsReady m → sent_up_to m slot ≡ booked_up_to m slot
 ready-sent m slot le ready = balanced-sent m slot le ready.balanced
 
--- the lines of a script leave a day ready
-pub ready-by-lines : (link : SharedLink) (n : ℕ) → IsKeptByLines link n IsReady
-ready-by-lines link n line old new text standing is ready =
-    let step : LineStep = record { link = link; old = old; new = new; text = text } in
-    outcome-ready step (line-outcome step line is) (line-order step line standing) ready
+-- ---- the lines of a script
+pub first-left : {link : SharedLink} {n : ℕ} (l : Line) (ls : List Line) (t : List ℕ) (ts : List (List ℕ))
+    (taken : LineRun link n (l ∷ ls) (t ∷ ts)) → IsReady taken.old → IsLeft link.limit 1 taken.old taken.run.0
+first-left l ls t ts taken ready =
+    let step = head_step taken in
+    outcome-left step (line-outcome step l taken.run.1.0) (line-order step l (first-standing taken.standing)) ready
 
-pub taken-ready : {link : SharedLink} {n : ℕ} (taken : LinesTaken link n) → IsReady taken.moment
-taken-ready {link} {n} taken = taken-keeps taken IsReady (ready-by-lines link n) morning-ready
+pub run-left : {link : SharedLink} {n : ℕ} (lines : List Line) (texts : List (List ℕ))
+    (taken : LineRun link n lines texts) → IsReady taken.old → IsLeft link.limit (length lines) taken.old taken.new
+run-left [] [] taken ready = left-kept taken.old taken.new taken.run ready
+run-left (l ∷ ls) (t ∷ ts) taken ready =
+    let one = first-left l ls t ts taken ready in
+    left-on (omega arith) one (run-left ls ts (rest_run taken) one.ready)
+run-left _ _ taken ready = absurd taken.run
 
--- after the lines of a script, what is sent up to a slot is what is booked up to there
-pub day-sent : {link : SharedLink} {n : ℕ} (taken : LinesTaken link n) (slot : ℕ) → taken.moment.heard ≤ slot
-    → sent_up_to taken.moment slot ≡ booked_up_to taken.moment slot
-day-sent taken slot le = ready-sent taken.moment slot le (taken-ready taken)
+pub taken-left : (link : SharedLink) (n : ℕ) (lines : List Line) (texts : List (List ℕ)) (moment : DayState)
+    → AreClients lines → AreLines n lines → AreLineSteps link lines texts first_moment moment
+    → IsLeft link.limit (length lines) first_moment moment
+taken-left link n lines texts moment clients are run =
+    run-left lines texts (run_of link n lines texts moment clients are run) morning-ready
+
+pub taken-ready : (link : SharedLink) (n : ℕ) (lines : List Line) (texts : List (List ℕ)) (moment : DayState)
+    → AreClients lines → AreLines n lines → AreLineSteps link lines texts first_moment moment → IsReady moment
+taken-ready link n lines texts moment clients are run = (taken-left link n lines texts moment clients are run).ready

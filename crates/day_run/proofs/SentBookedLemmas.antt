@@ -1,52 +1,172 @@
+-- The halts of a day's journal, and that what is sent in a day's slots is what is booked there.
 use Rattle.std.proofs.lemmas.Grind.{common_steps}
--- What is sent in a day's slots is what is booked there.
-use Rattle.std.proofs.Common.{◌≡◌, ◌<◌, ◌≤◌, ◌+◌, ◌-◌, ◌==◌, ℕ, zero, suc, List, [], ◌∷◌, ◌++◌, All, false, cond}
-use Rattle.std.proofs.Common.{length, map, set, get_or, Some, arith, refl, sym, ap, subst, ◌∙◌, inl, inr}
-use Rattle.slot_calendar.proofs.PlanSlots.{sent-rises}
-use Rattle.std.specs.Prelude.{count_by, sum_by}
-use Rattle.std.specs.List.{range_with_len}
-use Rattle.std.proofs.lemmas.Bool.{cases_Bool, cond-true, cond-false}
-use Rattle.std.proofs.lemmas.List.{get_or_append_left, get_or-append_right, length-append, length-set, map-append}
-use Rattle.std.proofs.lemmas.List.Elements.{All-cons, All-head, All-push, All-tail, All-weaker}
-use Rattle.std.proofs.lemmas.List.Sums.{sum_by-append, sum_by-cons, sum_by-set, sum_by_push}
-use Rattle.plan_cert.specs.declared.Segment.{Segment}
-use Rattle.slot_calendar.specs.Plays.{Play as Booked, truncated_play, share_at, whole_play}
-use Rattle.admission.specs.declared.entries.Entry.{Entry}
+use Rattle.std.proofs.Common.{◌≡◌, ◌<◌, ℕ, false, true≢false, List, [], ◌∷◌, ◌++◌, length, get_or, arith, sym, ap}
+use Rattle.std.proofs.Common.{subst, ◌∙◌, ◌+◌, inl, inr, zero, suc, ◌≤◌, ◌-◌, All, cond, map, set, Some, refl}
+use Rattle.std.proofs.lemmas.Bool.{cases_lt}
+use Rattle.std.proofs.lemmas.List.{get_or_append_left, get_or_default, get_or_push, length-append, length-set}
 use Rattle.admission.specs.declared.entries.Answer.TheVariants.{Halted}
+use Rattle.admission.specs.declared.entries.Command.{Command}
+use Rattle.admission.specs.declared.entries.Command.TheVariants.{Halt}
+use Rattle.admission.specs.declared.entries.Entry.{Entry}
+use Rattle.admission.specs.Histories.{IsHalt, is_halt, Halts, IsUnhalted, open_count, state_after}
+use Rattle.day_run.specs.BookingBalance.{AreOwnHalts, IsReady, AreHeldOf, IsBalanced, IsHeld, share_of}
+use Rattle.day_run.specs.Days.{entry_by, halt_by, DayState, state_at, booked_up_to, sent_up_to}
+use Rattle.std.specs.Prelude.{◌⊎◌, sum_by}
+use Rattle.day_run.specs.ClientStates.{Playing, ClientPlay, Idle, Pausing, Paused, ClientState, Rest, booking_of}
+use Rattle.day_run.specs.ClientStates.{growth, is_playing, sent_between, sent_by}
+use Rattle.day_run.specs.JournalLaws.{IsOpenPlayOf}
+use Rattle.slot_calendar.proofs.PlanSlots.{sent-rises}
+use Rattle.std.specs.List.{range_with_len}
+use Rattle.std.proofs.lemmas.List.Elements.{All-push}
+use Rattle.std.proofs.lemmas.List.Sums.{sum_by-append, sum_by-cons, sum_by-set}
+use Rattle.slot_calendar.specs.Plays.{Play as Booked, truncated_play, share_at}
 use Rattle.admission.specs.declared.entries.Command.TheVariants as commands
-use Rattle.admission.specs.Histories.{is_halt, open_count, state_after}
 use Rattle.admission.specs.Machine.{AdmittedPlay, State, admitted_play, booked_in, halted_play, play_numbered}
 use Rattle.admission.specs.Machine.{with_halted}
 use Rattle.admission.proofs.PlayLookup.{found-new, found-other, found-push}
-use Rattle.admission.proofs.Halts.{plays-split, split}
+use Rattle.admission.proofs.Halts.{all-halted, split}
 use Rattle.admission.proofs.HistoryPrefixes.{state-push}
-use Rattle.day_run.proofs.ListUpdates.{set-at, set_place}
-use Rattle.day_run.specs.BookingBalance.{AreHeldOf, IsBalanced, IsHeld, share_of}
-use Rattle.day_run.specs.Days.{DayState, booked_up_to, entry_by, halt_by, sent_up_to}
-use Rattle.day_run.specs.ClientStates.{Idle, Playing, Pausing, Paused, ClientPlay, ClientState, Rest, booking_of}
-use Rattle.day_run.specs.ClientStates.{growth, is_playing, sent_between, sent_by}
-use Rattle.day_run.proofs.JournalHalts.{halts-none, halts-push}
+use Rattle.day_run.proofs.JournalStepLemmas.{set-at}
 use Rattle.day_run.proofs.SlotTotals.{sum-slots}
+
+-- ---- each halt of a day's journal is of an earlier play of its maker's, also after one more entry
+-- a play of this number, which stands in the journal and is the maker's
+pub record IsOwnPlay (entries : List Entry) (number owner : ℕ) : Type 0 where
+  pub inside : number < length entries
+  pub maker : (none : Entry) → (get_or entries number none).maker ≡ owner
+
+-- a journal, and an entry after it that halts a play of its maker's, or none
+record NextEntry : Type 0 where
+  entries : List Entry
+  e : Entry
+  halts : AreOwnHalts entries
+  is : (number keep : ℕ) → e.command ≡ Halt number keep → IsOwnPlay entries number e.maker
+
+record OwnHalt (entries : List Entry) (i number : ℕ) (maker : ℕ) : Type 0 where
+  earlier : number < i
+  play : IsOwnPlay entries number maker
+
+found : {i number keep : ℕ} (next : NextEntry) (none : Entry) → IsHalt (next.entries ++ next.e ∷ []) i number keep
+    → OwnHalt next.entries i number (get_or (next.entries ++ next.e ∷ []) i none).maker
+found {i} {number} {keep} next none halt = elim (cases_lt i (length entries)) [
+  | inl before ↦ (
+      let same : (d : Entry) → get_or (entries ++ e ∷ []) i d ≡ get_or entries i d = grind (arith, common_steps) in
+      let old : IsHalt entries i number keep = search arith in
+      let less = halts.earlier i number keep old in
+      record {
+        earlier = less;
+        play = record {
+          inside = omega (arith, less, before);
+          maker = λ d. sym (halts.own.each i number keep d old)
+              ∙ ap (λ (x : Entry). x.maker) (sym (same d))
+              ∙ ap (λ (x : Entry). x.maker) (get_or_default (entries ++ e ∷ []) i d none halt.inside);
+        };
+      }
+      )
+  | inr after ↦ (
+      let n : length (entries ++ e ∷ []) ≡ length entries + 1 = length-append entries (e ∷ []) in
+      let at : length entries ≡ i = omega (arith, after, halt.inside, n) in
+      let here : (d : Entry) → get_or (entries ++ e ∷ []) i d ≡ e = λ d. get_or_push entries e d i at in
+      let play = is number keep (ap (λ (x : Entry). x.command) (sym (here none)) ∙ halt.command_is none) in
+      record {
+        earlier = omega (arith, play.inside, at);
+        play = search arith;
+      }
+      )
+]
+  where
+    open next use {entries, e, halts, is}
+
+push : (next : NextEntry) → AreOwnHalts (next.entries ++ next.e ∷ [])
+push next = record {
+  earlier = λ i number keep halt. (found next next.e halt).earlier;
+  own = record {
+    each = λ i number keep none halt.
+        let at = found next none halt in
+        sym (ap (λ (x : Entry). x.maker) (get_or_append_left next.entries (next.e ∷ []) none number at.play.inside)
+        ∙ at.play.maker none);
+  };
+}
+
+pub halts-none : (entries : List Entry) (e : Entry) → is_halt e.command ≡ false → AreOwnHalts entries
+    → AreOwnHalts (entries ++ e ∷ [])
+halts-none entries e no_halt halts =
+    push (record {
+      entries = entries;
+      e = e;
+      halts = halts;
+      is = λ number keep is. absurd (true≢false (sym (ap is_halt is) ∙ no_halt));
+    })
+
+abbrev number_or : ℕ → Command → ℕ
+number_or d (Halt number keep) = number
+number_or d _ = d
+
+pub halts-push : (entries : List Entry) (c number keep : ℕ) → IsOwnPlay entries number c → AreOwnHalts entries
+    → AreOwnHalts (entries ++ halt_by c number keep)
+halts-push entries c number keep play halts =
+    push (record {
+      entries = entries;
+      e = entry_by c (Halt number keep) Halted;
+      halts = halts;
+      is = λ n k is. subst (λ (m : ℕ). IsOwnPlay entries m c) (ap (number_or 0) is) play;
+    })
+
+-- ---- each play of a day is halted once, by its own client
+-- the halt of a play, where there is one
+pub record FoundHalt (entries : List Entry) (number : ℕ) : Type 0 where
+  pub place : ℕ
+  pub keep : ℕ
+  pub halt : IsHalt entries place number keep
+
+record HaltsWith (number : ℕ) (command : Command) : Type 0 where
+  keep : ℕ
+  is : command ≡ Halt number keep
+
+halts-or : (number : ℕ) (command : Command) → HaltsWith number command ⊎ (Halts number command → ⊥)
+halts-or number (Halt that keep) = grind arith
+halts-or number _ = inr (λ halts. halts)
+
+pub find-halt : (number : ℕ) (entries : List Entry) → FoundHalt entries number ⊎ IsUnhalted entries number
+find-halt number [] = inr (record { each = λ i none inside. absurd (omega (arith, inside)) })
+find-halt number (e ∷ entries) = elim (halts-or number e.command) [
+  | inl here ↦ inl (record {
+    place = zero;
+    keep = here.keep;
+    halt = record { inside = omega arith; command_is = λ none. here.is };
+  })
+  | inr apart ↦ elim (find-halt number entries) [
+    | inl later ↦ inl (record {
+      place = suc later.place;
+      keep = later.keep;
+      halt = record { inside = omega (arith, later.halt.inside); command_is = later.halt.command_is };
+    })
+    | inr never ↦ inr (unhalted-more e entries apart never)
+  ]
+]
+  where
+    unhalted-more : (e : Entry) (entries : List Entry) → (Halts number e.command → ⊥) → IsUnhalted entries number
+        → IsUnhalted (e ∷ entries) number
+    unhalted-more e entries apart never = search arith
+
+pub open-own : {m : DayState} {client : ℕ} {play : ClientPlay} → IsReady m → client < 256
+    → state_at m client ≡ Playing play → IsOpenPlayOf m.entries client play
+open-own {m} {client} {play} ready inside at = search arith
 
 -- ---- plays slot by slot
 -- one slot more
 pub growth-more : (heard slot : ℕ) (play : Booked) → heard ≤ slot
     → growth heard (slot + 1) play ≡ growth heard slot play + share_at (slot + 1) play
-growth-more heard slot play le =
-    grind (
-      arith,
-      sent-rises play.segments play.start (heard + 1) (slot + 1) (omega (arith, le)),
-      sent-rises play.segments play.start (slot + 1) (slot + 1 + 1) (omega arith),
-    )
+growth-more heard slot play le = search (
+  arith,
+  sent-rises play.segments play.start (heard + 1) (slot + 1) (omega (arith, le)),
+  sent-rises play.segments play.start (slot + 1) (slot + 1 + 1) (omega arith),
+)
 
 -- once all that is kept was sent nothing more is booked
 pub share-done : (t heard : ℕ) (play : Booked) → heard < t → sent_by play heard ≡ play.keep → share_at t play ≡ 0
-share-done t heard play later all =
-    grind (
-      arith,
-      sent-rises play.segments play.start (heard + 1) t (omega (arith, later)),
-      sent-rises play.segments play.start (heard + 1) (t + 1) (omega (arith, later)),
-    )
+share-done t heard play later all = search
+    (arith, sent-rises play.segments play.start (heard + 1) t (omega (arith, later)))
 
 between-more : (heard slot : ℕ) (state : ClientState) → heard ≤ slot
     → sent_between heard (slot + 1) state ≡ sent_between heard slot state + share_of (slot + 1) state
@@ -57,24 +177,31 @@ between-more heard slot _ le = omega arith
 between-none : (heard : ℕ) (state : ClientState) → sent_between heard heard state ≡ 0
 between-none heard state = grind arith
 
-sum-between : (heard slot : ℕ) (states : List ClientState) → heard ≤ slot
-    → sum_by (sent_between heard (slot + 1)) states
-    ≡ sum_by (sent_between heard slot) states + sum_by (share_of (slot + 1)) states
-sum-between heard slot [] le = omega arith
-sum-between heard slot (state ∷ states) le =
-    grind (
+sum-parts : (f g h : ClientState → ℕ) → ((s : ClientState) → f s ≡ g s + h s) → (states : List ClientState)
+    → sum_by f states ≡ sum_by g states + sum_by h states
+sum-parts f g h each [] = refl
+sum-parts f g h each (s ∷ states) =
+    omega (
       arith,
-      between-more heard slot state le,
-      sum-between heard slot states le,
-      sum_by-cons (sent_between heard (slot + 1)) state states,
-      sum_by-cons (sent_between heard slot) state states,
-      sum_by-cons (share_of (slot + 1)) state states,
+      each s,
+      sum-parts f g h each states,
+      sum_by-cons f s states,
+      sum_by-cons g s states,
+      sum_by-cons h s states,
     )
 
+pub sum-mapped : {X Y : Type 0} (k : X → Y) (f : Y → ℕ) (g : X → ℕ) → ((x : X) → f (k x) ≡ g x) → (xs : List X)
+    → sum_by f (map k xs) ≡ sum_by g xs
+sum-mapped k f g each [] = refl
+sum-mapped k f g each (x ∷ xs) =
+    omega (arith, each x, sum-mapped k f g each xs, sum_by-cons f (k x) (map k xs), sum_by-cons g x xs)
+
+pub sum-zero : (f : ClientState → ℕ) → ((s : ClientState) → f s ≡ 0) → (states : List ClientState)
+    → sum_by f states ≡ 0
+sum-zero f each states = omega (arith, sum-parts f f f (λ s. omega (arith, each s)) states)
+
 pub sum-none : (heard : ℕ) (states : List ClientState) → sum_by (sent_between heard heard) states ≡ 0
-sum-none heard [] = refl
-sum-none heard (state ∷ states) =
-    omega (arith, between-none heard state, sum-none heard states, sum_by-cons (sent_between heard heard) state states)
+sum-none heard states = sum-zero (sent_between heard heard) (between-none heard) states
 
 -- what is sent in the slots after one is what the clients book there
 sent-booked : (booked : ℕ → ℕ) (heard n : ℕ) (states : List ClientState)
@@ -82,19 +209,16 @@ sent-booked : (booked : ℕ → ℕ) (heard n : ℕ) (states : List ClientState)
     → sum_by (sent_between heard (heard + n)) states ≡ sum_by booked (range_with_len (heard + 1) n)
 sent-booked booked heard zero states each = grind (arith, sum-none heard states)
 sent-booked booked heard (suc n) states each =
-    let e : heard + suc n ≡ heard + n + 1 = omega arith in
+    let to = heard + n in
+    let sums : sum_by (sent_between heard (to + 1)) states
+    ≡ sum_by (sent_between heard to) states + sum_by (share_of (to + 1)) states =
+    sum-parts (sent_between heard (to + 1)) (sent_between heard to) (share_of (to + 1))
+    (λ s. between-more heard to s (omega arith)) states in
+    let whole : sum_by (sent_between heard (to + 1)) states ≡ sum_by booked (range_with_len (heard + 1) (n + 1)) =
+    search
+    (arith, sent-booked booked heard n states each, sum-slots booked (heard + 1) n, each (to + 1) (omega arith)) in
+    let e : heard + suc n ≡ to + 1 = omega arith in
     let f : suc n ≡ n + 1 = omega arith in
-    let g : heard + 1 + n ≡ heard + n + 1 = omega arith in
-    let s : sum_by (sent_between heard (heard + n + 1)) states
-    ≡ sum_by (sent_between heard (heard + n)) states + sum_by (share_of (heard + n + 1)) states =
-    sum-between heard (heard + n) states (omega arith) in
-    let b : sum_by booked (range_with_len (heard + 1) (n + 1))
-    ≡ sum_by booked (range_with_len (heard + 1) n) + booked (heard + n + 1) =
-    sum-slots booked (heard + 1) n ∙ ap (λ k. sum_by booked (range_with_len (heard + 1) n) + booked k) g in
-    let here : booked (heard + n + 1) ≡ sum_by (share_of (heard + n + 1)) states = each (heard + n + 1) (omega arith) in
-    let whole : sum_by (sent_between heard (heard + n + 1)) states
-    ≡ sum_by booked (range_with_len (heard + 1) (n + 1)) =
-    omega (arith, s, b, here, sent-booked booked heard n states each) in
     ap (λ k. sum_by (sent_between heard k) states) e ∙ whole
     ∙ sym (ap (λ k. sum_by booked (range_with_len (heard + 1) k)) f)
 
@@ -110,9 +234,6 @@ balanced-sent m slot le balanced =
 abbrev pub IsShut : ClientState → Type 0
 IsShut (Playing play) = ⊥
 IsShut _ = Unit {0}
-
-shut-idle : (state : ClientState) → IsShut state → is_playing state ≡ false
-shut-idle state given = grind arith
 
 -- a client books nothing, and plays nothing
 pub record IsFree (state : ClientState) : Type 0 where
@@ -143,11 +264,22 @@ maker-more : (entries : List Entry) (e : Entry) (c : ℕ) (play : ClientPlay) �
     ≡ Some (admitted_play play.number play.start play.plan) → IsHeld (entries ++ e ∷ []) c play
 maker-more entries e c play its held = grind (arith, length-append entries (e ∷ []), get_or_append_left)
 
-sum-split : (t : ℕ) (before after : List AdmittedPlay) (h : AdmittedPlay)
-    → sum_by (share_at t) (map (λ (x : AdmittedPlay). x.play) (before ++ h ∷ after))
-    ≡ sum_by (share_at t) (map (λ (x : AdmittedPlay). x.play) before)
-    + (share_at t h.play + sum_by (share_at t) (map (λ (x : AdmittedPlay). x.play) after))
-sum-split t before after h = grind (arith, common_steps)
+-- what a halt changes of a sum over the plays that the machine holds
+sum-halted : {h : AdmittedPlay} (f : AdmittedPlay → ℕ) (number keep : ℕ) (held : List AdmittedPlay)
+    → play_numbered number held ≡ Some h
+    → sum_by f (with_halted number keep held) + f h ≡ sum_by f held + f (halted_play keep h)
+sum-halted {h} f number keep held is =
+    let parts = split number held h is in
+    let next = halted_play keep h in
+    omega (
+      arith,
+      ap (sum_by f) (parts.becomes keep),
+      ap (sum_by f) parts.was,
+      sum_by-append f parts.before (next ∷ parts.after),
+      sum_by-append f parts.before (h ∷ parts.after),
+      sum_by-cons f next parts.after,
+      sum_by-cons f h parts.after,
+    )
 
 -- a client's play that the machine holds
 pub record HeldClient (entries : List Entry) : Type 0 where
@@ -160,58 +292,31 @@ pub booked-halted : (entries : List Entry) (its : HeldClient entries) (keep t : 
     → booked_in (state_after (entries ++ halt_by its.c its.play.number keep)) t + share_at t (booking_of its.play)
     ≡ booked_in (state_after entries) t + share_at t (truncated_play its.play.start its.play.plan keep)
 booked-halted entries its keep t =
+    let play = its.play in
     let held = (state_after entries).held in
-    let h = admitted_play play.number play.start play.plan in
-    let parts = split play.number held h is.held in
-    let F : List AdmittedPlay → ℕ = λ hs. sum_by (share_at t) (map (λ (x : AdmittedPlay). x.play) hs) in
-    let s : F (state_after (entries ++ halt_by c play.number keep)).held ≡ F (with_halted play.number keep held) =
-    ap (λ (x : State). F x.held) (state-push entries (entry_by c (commands.Halt play.number keep) Halted)) in
-    let new : F (with_halted play.number keep held)
-    ≡ F parts.before + (share_at t (truncated_play play.start play.plan keep) + F parts.after) =
-    ap F (parts.becomes keep) ∙ sum-split t parts.before parts.after (halted_play keep h) in
-    let old : F held ≡ F parts.before + (share_at t (booking_of play) + F parts.after) = grind (arith, common_steps) in
-    omega (arith, s, new, old)
-  where
-    open its use {c, play, is}
+    let e = entry_by its.c (commands.Halt play.number keep) Halted in
+    let sum = sum-mapped (λ (h : AdmittedPlay). h.play) (share_at t) (λ (h : AdmittedPlay). share_at t h.play)
+    (λ h. refl) in
+    let pushed : booked_in (state_after (entries ++ e ∷ [])) t
+    ≡ sum_by (share_at t) (map (λ (h : AdmittedPlay). h.play) (with_halted play.number keep held)) =
+    ap (λ (s : State). booked_in s t) (state-push entries e) in
+    omega (
+      arith,
+      pushed,
+      sum held,
+      sum (with_halted play.number keep held),
+      sum-halted (λ (h : AdmittedPlay). share_at t h.play) play.number keep held its.is.held,
+    )
 
 -- one play fewer is open once a play was halted
 pub open-less : (entries : List Entry) (its : HeldClient entries) (keep : ℕ)
     → open_count (entries ++ halt_by its.c its.play.number keep) + 1 ≡ open_count entries
 open-less entries its keep =
-    let held = (state_after entries).held in
-    let h = admitted_play play.number play.start play.plan in
-    let parts = split play.number held h is.held in
-    let new : open_count (entries ++ halt_by c play.number keep)
-    ≡ sum_by open_one parts.before + (0 + sum_by open_one parts.after) =
-    ap (λ (x : State). sum_by open_one x.held)
-    (state-push entries (entry_by c (commands.Halt play.number keep) Halted))
-    ∙ ap (sum_by open_one) (parts.becomes keep)
-    ∙ sum_by-append open_one parts.before (halted_play keep h ∷ parts.after)
-    ∙ ap (λ k. sum_by open_one parts.before + k) (sum_by-cons open_one (halted_play keep h) parts.after) in
-    let old : open_count entries ≡ sum_by open_one parts.before + (1 + sum_by open_one parts.after) =
-    ap (sum_by open_one) parts.was ∙ sum_by-append open_one parts.before (h ∷ parts.after)
-    ∙ ap (λ k. sum_by open_one parts.before + k) (sum_by-cons open_one h parts.after) in
-    omega (arith, new, old)
-  where
-    open its use {c, play, is}
-
-fresh-halted : (number keep n : ℕ) (held : List AdmittedPlay) → All (λ (h : AdmittedPlay). h.number < n) held
-    → All (λ (h : AdmittedPlay). h.number < n) (with_halted number keep held)
-fresh-halted number keep n [] all = all
-fresh-halted number keep n (x ∷ held) all =
-    let P : AdmittedPlay → Type 0 = λ h. h.number < n in
-    let A : List AdmittedPlay → Type 0 = λ l. All P l in
-    elim (cases_Bool (x.number == number)) [
-      | inl found ↦
-          subst A (sym (cond-true (x.number == number) (halted_play keep x ∷ held)
-          (x ∷ with_halted number keep held) found))
-          (All-cons P (halted_play keep x) held (All-head P x held all) (All-tail P x held all))
-      | inr other ↦
-          subst A (sym (cond-false (x.number == number) (halted_play keep x ∷ held)
-          (x ∷ with_halted number keep held) other))
-          (All-cons P x (with_halted number keep held) (All-head P x held all)
-          (fresh-halted number keep n held (All-tail P x held all)))
-    ]
+    let e = entry_by its.c (commands.Halt its.play.number keep) Halted in
+    let pushed : open_count (entries ++ e ∷ [])
+    ≡ sum_by open_one (with_halted its.play.number keep (state_after entries).held) =
+    ap (λ (s : State). sum_by open_one s.held) (state-push entries e) in
+    omega (arith, pushed, sum-halted open_one its.play.number keep (state_after entries).held its.is.held)
 
 fresh-more : (n m : ℕ) (held : List AdmittedPlay) → n ≤ m → All (λ (h : AdmittedPlay). h.number < n) held
     → All (λ (h : AdmittedPlay). h.number < m) held
@@ -239,27 +344,23 @@ pub record PlayStopped (heard : ℕ) (play : ClientPlay) : Type 0 where
   pub shut : IsShut next
   pub shares : (t : ℕ) → heard < t → share_of t next ≡ share_at t (truncated_play play.start play.plan keep)
 
--- as many plays are open as clients play
-halted-count : {m : DayState} {play : ClientPlay} (own : BalancedClient m (Playing play))
-    (stop : PlayStopped m.heard play) → open_count (m.entries ++ halt_by own.c play.number stop.keep)
-    ≡ count_by is_playing (set m.states own.c stop.next)
-halted-count {m} own stop =
-    let p = open-less m.entries (its-held own) keep in
-    let s : count_by is_playing (set m.states c next) + playing_one (get_or m.states c Idle)
-    ≡ count_by is_playing m.states + playing_one next = sum_by-set playing_one m.states c next Idle inside in
-    let was : playing_one (get_or m.states c Idle) ≡ 1 = ap playing_one at in
-    let is : playing_one next ≡ 0 = ap (λ b. cond b 1 0) (shut-idle next shut) in
-    omega (arith, p, s, was, is, balanced.playing)
-  where
-    open own use {c, inside, at, balanced}
-    open stop use {keep, next, shut}
-
 -- the machine holds the same plays, all of them with earlier numbers
-halted-fresh : (entries : List Entry) (c number keep : ℕ)
+halted-fresh : (entries : List Entry) (its : HeldClient entries) (keep : ℕ)
     → All (λ (h : AdmittedPlay). h.number < length entries) (state_after entries).held
-    → All (λ (h : AdmittedPlay). h.number < length (entries ++ halt_by c number keep))
-    (state_after (entries ++ halt_by c number keep)).held
-halted-fresh entries c number keep fresh = grind (arith, state-push, length-append, fresh-halted)
+    → All (λ (h : AdmittedPlay). h.number < length (entries ++ halt_by its.c its.play.number keep))
+    (state_after (entries ++ halt_by its.c its.play.number keep)).held
+halted-fresh entries its keep fresh = grind (
+  arith,
+  state-push,
+  length-append,
+  fresh-more,
+  all-halted (λ (h : AdmittedPlay). h.number < length entries) (record {
+    state = state_after entries;
+    number = its.play.number;
+    held = admitted_play its.play.number its.play.start its.play.plan;
+    is = its.is.held;
+  }) keep its.is.inside fresh,
+)
 
 -- what the machine holds for the clients, one of which is set
 held-set : (entries : List Entry) (states : List ClientState) (c : ℕ) (next : ClientState)
@@ -267,7 +368,7 @@ held-set : (entries : List Entry) (states : List ClientState) (c : ℕ) (next : 
     → ((d : ℕ) → (d ≡ c → ⊥) → d < length states → AreHeldOf entries d (get_or states d Idle))
     → AreHeld entries (set states c next)
 held-set entries states c next here others = λ d within.
-    set-at (AreHeldOf entries) (set_place states c d next Idle) (λ same. here.0) here.1
+    set-at (AreHeldOf entries) states c d next Idle (λ same. here.0) here.1
     (λ other. others d other (omega (arith, within, length-set states c next)))
 
 -- a client's play was halted, and the client books what is kept of it
@@ -285,10 +386,10 @@ balanced-halt {m} {play} own stop =
           omega (arith, b, s, was, shares t later, balanced.each t later);
       held = held-set new m.states c next (inside, shut-held new c next shut) (λ d other within.
           others d (get_or m.states d Idle) other (balanced.held d within));
-      fresh = halted-fresh m.entries c play.number keep balanced.fresh;
-      playing = halted-count own stop;
-      halts = halts-push m.entries c play.number keep
-          (record { inside = its.is.inside; maker = its.is.maker }) balanced.halts;
+      fresh = halted-fresh m.entries its keep balanced.fresh;
+      playing = search
+          (arith, open-less m.entries its keep, sum_by-set playing_one m.states c next Idle inside);
+      halts = search halts-push;
     }
   where
     open own use {c, inside, at, balanced}
@@ -306,9 +407,8 @@ balanced-halt {m} {play} own stop =
     others d _ other held = tt
 
 -- an entry that leaves the plays of the machine as they are
-same-held : (entries : List Entry) (e : Entry) (c : ℕ) (state : ClientState)
-    → (state_after (entries ++ e ∷ [])).held ≡ (state_after entries).held
-    → AreHeldOf entries c state → AreHeldOf (entries ++ e ∷ []) c state
+same-held : (entries : List Entry) (e : Entry) (c : ℕ) (state : ClientState) → (state_after (entries ++ e ∷ [])).held
+    ≡ (state_after entries).held → AreHeldOf entries c state → AreHeldOf (entries ++ e ∷ []) c state
 same-held entries e c (Playing play) same its =
     maker-more entries e c play its (ap (play_numbered play.number) same ∙ its.held)
 same-held entries e c _ same its = tt
@@ -320,34 +420,16 @@ balanced-same m e same no_halt balanced =
     grind (arith, same-held, common_steps, halts-none m.entries e no_halt balanced.halts)
 
 -- an entry by which the machine holds one play more
-record NextHeld (entries : List Entry) : Type 0 where
-  pub e : Entry
-  pub new : AdmittedPlay
-  pub is : (state_after (entries ++ e ∷ [])).held ≡ (state_after entries).held ++ new ∷ []
-
-push-held : (entries : List Entry) (next : NextHeld entries) (c : ℕ) (state : ClientState) → AreHeldOf entries c state
-    → AreHeldOf (entries ++ next.e ∷ []) c state
-push-held entries next c (Playing play) its =
-    maker-more entries e c play its
-    (ap (play_numbered play.number) is
-    ∙ found-push play.number (state_after entries).held (admitted_play play.number play.start play.plan) new its.held)
-  where
-    open next use {e, new, is}
-push-held entries next c _ its = tt
-
--- the entry of a play that begins
-pub record BegunPlay (entries : List Entry) : Type 0 where
-  pub e : Entry
-  pub number : ℕ
-  pub start : ℕ
-  pub plan : List Segment
-  pub is : (state_after (entries ++ e ∷ [])).held ≡ (state_after entries).held ++ admitted_play number start plan ∷ []
+push-held : (entries : List Entry) (e : Entry) (new : AdmittedPlay) → (state_after (entries ++ e ∷ [])).held
+    ≡ (state_after entries).held ++ new ∷ [] → (c : ℕ) (state : ClientState) → AreHeldOf entries c state
+    → AreHeldOf (entries ++ e ∷ []) c state
+push-held entries e new is c state given = grind (arith, common_steps, found-push)
 
 -- it books its plan
-pub booked-begun : (entries : List Entry) (t : ℕ) (begun : BegunPlay entries)
-    → booked_in (state_after (entries ++ begun.e ∷ [])) t
-    ≡ booked_in (state_after entries) t + share_at t (whole_play begun.start begun.plan)
-booked-begun entries t begun = grind (arith, common_steps)
+booked-begun : (entries : List Entry) (t : ℕ) (e : Entry) (new : AdmittedPlay)
+    → (state_after (entries ++ e ∷ [])).held ≡ (state_after entries).held ++ new ∷ []
+    → booked_in (state_after (entries ++ e ∷ [])) t ≡ booked_in (state_after entries) t + share_at t new.play
+booked-begun entries t e new is = grind (arith, common_steps)
 
 -- a client's play was admitted
 pub record ClientPlayed (entries : List Entry) (c : ℕ) : Type 0 where
@@ -364,14 +446,10 @@ played-held : {entries : List Entry} {c : ℕ} (played : ClientPlayed entries c)
     → All (λ (h : AdmittedPlay). h.number < length entries) (state_after entries).held
     → IsHeld (entries ++ played.e ∷ []) c played.play
 played-held {entries} {c} played fresh =
-    let held = (state_after entries).held in
     record {
       inside = omega (arith, number, length-append entries (e ∷ []));
       maker = grind (arith, common_steps);
-      held =
-          let A : ℕ → Type 0 = λ k. All (λ (h : AdmittedPlay). h.number < k) held in
-          ap (play_numbered play.number) is
-          ∙ found-new play.number play.start play.plan held (subst A (sym number) fresh);
+      held = search (arith, found-new);
     }
   where
     open played use {play, e, number, maker, is}
@@ -387,24 +465,17 @@ balanced-play {m} {c} played inside free balanced =
     let n : length ys ≡ length m.entries + 1 = omega (arith, length-append m.entries (e ∷ [])) in
     record {
       each = λ t later.
-          let b = booked-begun m.entries t
-          (record { e = e; number = play.number; start = play.start; plan = play.plan; is = is }) in
+          let b = booked-begun m.entries t e new is in
           let s = sum_by-set (share_of t) m.states c (Playing play) Idle inside in
           omega (arith, b, s, free.shares t, balanced.each t later);
       held = held-set ys m.states c (Playing play) (inside, played-held played balanced.fresh) (λ d other within.
-          push-held m.entries (record { e = e; new = new; is = is }) d (get_or m.states d Idle)
-          (balanced.held d within));
+          push-held m.entries e new is d (get_or m.states d Idle) (balanced.held d within));
       fresh =
           let P : AdmittedPlay → Type 0 = λ h. h.number < length ys in
           subst (All P) (sym is)
           (All-push P held new (fresh-more (length m.entries) (length ys) held (omega (arith, n)) balanced.fresh)
           (omega (arith, number, n)));
-      playing =
-          let p : open_count ys ≡ open_count m.entries + 1 = grind (arith, common_steps) in
-          let s : count_by is_playing (set m.states c (Playing play)) + playing_one (get_or m.states c Idle)
-          ≡ count_by is_playing m.states + 1 = sum_by-set playing_one m.states c (Playing play) Idle inside in
-          let was : playing_one (get_or m.states c Idle) ≡ 0 = ap (λ b. cond b 1 0) free.shut in
-          omega (arith, p, s, was, balanced.playing);
+      playing = grind (arith, common_steps);
       halts = halts-none m.entries e no_halt balanced.halts;
     }
   where

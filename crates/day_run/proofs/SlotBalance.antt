@@ -1,15 +1,13 @@
-use Rattle.std.proofs.lemmas.Grind.{common_steps}
 -- The clients book what the machine has booked once a slot has come, and at the end of a day; and what
 -- is booked in past slots stays.
-use Rattle.std.proofs.Common.{◌≡◌, ◌<◌, ◌≤◌, ◌+◌, ◌-◌, ◌==◌, ℕ, zero, suc, true, false, Bool, cond, nat_le, List, []}
-use Rattle.std.proofs.Common.{◌∷◌, ◌++◌, length, map, take, set, get_or, sum, arith, refl, sym, ap, subst, ◌∙◌}
+use Rattle.std.proofs.lemmas.Grind.{common_steps}
+use Rattle.std.proofs.Common.{◌≡◌, ◌<◌, ◌≤◌, ◌+◌, ◌-◌, ◌==◌, ℕ, zero, suc, true, false, Bool, cond, List, [], ◌++◌}
+use Rattle.std.proofs.Common.{length, map, take, set, get_or, arith, refl, sym, ap, subst, ◌∙◌}
 use Rattle.slot_calendar.proofs.PlanSlots.{sent-rises}
-use Rattle.std.specs.Prelude.{sum_by}
-use Rattle.std.proofs.lemmas.Bool.{eqb-true, and_parts}
-use Rattle.std.proofs.lemmas.List.{append-nil, get_or-map, length-append, length-map, set-get_or, take_all}
-use Rattle.std.proofs.lemmas.List.Sums.{sum_by-cons}
-use Rattle.plan_cert.specs.PlanSlots.{plan_slots, total_bytes}
-use Rattle.slot_calendar.specs.Plays.{Play as Booked, truncated_play, sent_before, share_at}
+use Rattle.std.proofs.lemmas.Bool.{eqb-true}
+use Rattle.std.proofs.lemmas.List.{get_or-map, length-append, length-map, take_all}
+use Rattle.plan_cert.specs.PlanSlots.{total_bytes}
+use Rattle.slot_calendar.specs.Plays.{Play as Booked, truncated_play, share_at}
 use Rattle.admission.specs.declared.entries.Entry.{Entry}
 use Rattle.admission.specs.Books.{places_taken}
 use Rattle.admission.specs.Histories.{open_count, state_after}
@@ -19,11 +17,10 @@ use Rattle.day_run.specs.Days.{DayState, at_slot, done_halt, halt_by, halt_entri
 use Rattle.day_run.specs.Clients.{after_open}
 use Rattle.day_run.specs.ClientStates.{Idle, Playing, Pausing, Paused, ClientPlay, Rest, ClientState, after_play}
 use Rattle.day_run.specs.ClientStates.{after_sending, booking_of, is_done, pausing_state, sent_by}
-use Rattle.day_run.proofs.LineStepLemmas.{halt_entries-sent}
-use Rattle.day_run.proofs.PauseLemmas.{pausing-cases}
-use Rattle.day_run.proofs.ClientSweepLemmas.{IsSwept, entries-more, swept-all, swept-none, swept-set}
-use Rattle.day_run.proofs.SentBookedLemmas.{BalancedClient, BegunPlay, HeldClient, PlayStopped, balanced-halt}
-use Rattle.day_run.proofs.SentBookedLemmas.{booked-begun, booked-halted, its-held, open-less, playing_one, share-done}
+use Rattle.day_run.proofs.ScriptLines.{halt_entries-sent}
+use Rattle.day_run.proofs.ClientSweepLemmas.{IsSwept, entries-more, swept-all, swept-set}
+use Rattle.day_run.proofs.SentBookedLemmas.{BalancedClient, HeldClient, PlayStopped, balanced-halt, booked-halted}
+use Rattle.day_run.proofs.SentBookedLemmas.{its-held, open-less, playing_one, share-done, sum-mapped, sum-zero}
 
 -- ---- a slot comes
 pause-share : (b : Bool) (t : ℕ) (stop : Booked) (rest : Rest) → (b ≡ true → share_at t stop ≡ 0)
@@ -37,31 +34,8 @@ pausing-share t slot stop rest later = grind (arith, pause-share, share-done, eq
 sending-share : (t slot : ℕ) (state : ClientState) → slot < t → share_of t (after_sending slot state) ≡ share_of t state
 sending-share t slot state given = grind (arith, pausing-share)
 
-sending-shares : (t slot : ℕ) (states : List ClientState) → slot < t
-    → sum_by (share_of t) (map (after_sending slot) states) ≡ sum_by (share_of t) states
-sending-shares t slot [] later = refl
-sending-shares t slot (state ∷ states) later =
-    search (
-      sending-share t slot state later,
-      sending-shares t slot states later,
-      sum_by-cons (share_of t) state states,
-      sum_by-cons (share_of t) (after_sending slot state) (map (after_sending slot) states),
-    )
-
 sending-play : (slot : ℕ) (state : ClientState) → playing_one (after_sending slot state) ≡ playing_one state
 sending-play slot state = grind arith
-
-sending-plays : (slot : ℕ) (states : List ClientState)
-    → sum_by playing_one (map (after_sending slot) states) ≡ sum_by playing_one states
-sending-plays slot [] = refl
-sending-plays slot (state ∷ states) =
-    grind (
-      arith,
-      sending-play slot state,
-      sending-plays slot states,
-      sum_by-cons playing_one state states,
-      sum_by-cons playing_one (after_sending slot state) (map (after_sending slot) states),
-    )
 
 sending-held : (entries : List Entry) (c slot : ℕ) (state : ClientState) → AreHeldOf entries c state
     → AreHeldOf entries c (after_sending slot state)
@@ -70,23 +44,24 @@ sending-held entries c slot state given = grind arith
 balanced-sending : (m : DayState) (slot : ℕ) → m.heard ≤ slot → IsBalanced m.entries m.states m.heard
     → IsBalanced m.entries (map (after_sending slot) m.states) slot
 balanced-sending m slot le balanced = record {
-  each = λ t later. balanced.each t (omega (arith, le, later)) ∙ sym (sending-shares t slot m.states later);
+  each = λ t later. balanced.each t (omega (arith, le, later)) ∙ sym (sum-mapped (after_sending slot)
+      (share_of t) (share_of t) (λ s. sending-share t slot s later) m.states);
   held = λ c within.
       let inside : c < length m.states = omega (arith, within, length-map m.states (after_sending slot)) in
       subst (AreHeldOf m.entries c) (sym (get_or-map (after_sending slot) m.states c Idle Idle inside))
       (sending-held m.entries c slot (get_or m.states c Idle) (balanced.held c inside));
   fresh = balanced.fresh;
-  playing = balanced.playing ∙ sym (sending-plays slot m.states);
+  playing = balanced.playing ∙ sym (sum-mapped (after_sending slot) playing_one playing_one (sending-play slot)
+      m.states);
   halts = balanced.halts;
 }
 
 -- a play that is done is halted
-done-shares : (t slot : ℕ) (play : ClientPlay) → slot < t → is_done slot play ≡ true
-    → share_of t Idle ≡ share_at t (truncated_play play.start play.plan (total_bytes play.plan))
-done-shares t slot play later done =
+all-sent : (slot : ℕ) (play : ClientPlay) → is_done slot play ≡ true
+    → sent_by (booking_of play) slot ≡ total_bytes play.plan
+all-sent slot play done =
     let all : (sent_by (booking_of play) slot == total_bytes play.plan) ≡ true = grind arith in
-    sym (share-done t slot (booking_of play) later
-    (eqb-true (sent_by (booking_of play) slot) (total_bytes play.plan) all))
+    eqb-true (sent_by (booking_of play) slot) (total_bytes play.plan) all
 
 -- ---- what is booked in past slots stays
 abbrev Stays : ℕ → List Entry → List Entry → Type 0
@@ -98,7 +73,7 @@ pub record KeepsSent (slot : ℕ) (play : ClientPlay) (keep : ℕ) : Type 0 wher
   pub most : keep ≤ total_bytes play.plan
 
 -- a play books in past slots what it did, where it keeps what was sent
-pub stays-halt : {slot : ℕ} (entries : List Entry) (its : HeldClient entries) (keep : ℕ) → KeepsSent slot its.play keep
+stays-halt : {slot : ℕ} (entries : List Entry) (its : HeldClient entries) (keep : ℕ) → KeepsSent slot its.play keep
     → Stays slot entries (entries ++ halt_by its.c its.play.number keep)
 stays-halt {slot} entries its keep kept t past = grind (arith, booked-halted entries its keep t, sent-rises)
 
@@ -111,7 +86,7 @@ pub record IsHaltedAt (slot : ℕ) (old new : List Entry) (states : List ClientS
   pub places : places_taken new ≡ places_taken old
 
 -- a halt takes the place that was kept for it
-pub places-halt : (entries : List Entry) (its : HeldClient entries) (keep : ℕ)
+places-halt : (entries : List Entry) (its : HeldClient entries) (keep : ℕ)
     → places_taken (entries ++ halt_by its.c its.play.number keep) ≡ places_taken entries
 places-halt entries its keep = grind (arith, open-less, length-append)
 
@@ -121,28 +96,35 @@ kept-step : {m : DayState} {state : ClientState} (own : BalancedClient m state)
 kept-step {m} {state} own = grind (arith, common_steps)
 
 -- a client's play is halted, which keeps what was sent
-halted-step : {m : DayState} {play : ClientPlay} (own : BalancedClient m (Playing play))
+pub halted-step : {m : DayState} {play : ClientPlay} (own : BalancedClient m (Playing play))
     (stop : PlayStopped m.heard play) → KeepsSent m.heard play stop.keep
     → IsHaltedAt m.heard m.entries (m.entries ++ halt_by own.c play.number stop.keep) (set m.states own.c stop.next)
-halted-step {m} own stop kept =
-    grind (
-      arith,
-      balanced-halt own stop,
-      stays-halt m.entries (its-held own) stop.keep kept,
-      places-halt m.entries (its-held own) stop.keep,
-    )
+halted-step {m} own stop kept = search (
+  balanced-halt own stop,
+  stays-halt m.entries (its-held own) stop.keep kept,
+  places-halt m.entries (its-held own) stop.keep,
+)
+
+-- it keeps just that
+idle-step : {m : DayState} {play : ClientPlay} (own : BalancedClient m (Playing play)) → IsHaltedAt m.heard m.entries
+    (m.entries ++ halt_by own.c play.number (sent_by (booking_of play) m.heard)) (set m.states own.c Idle)
+idle-step {m} {play} own =
+    let keep = sent_by (booking_of play) m.heard in
+    halted-step own (record {
+      keep = keep;
+      next = Idle;
+      shut = tt;
+      shares = λ t later.
+          sym (share-done t m.heard (truncated_play play.start play.plan keep) later (omega arith));
+    }) (record { sent = omega arith; most = omega arith })
 
 step-play : {m : DayState} {play : ClientPlay} {done : Bool} (own : BalancedClient m (Playing play))
     → is_done m.heard play ≡ done → IsHaltedAt m.heard m.entries
     (m.entries ++ cond done (halt_by own.c play.number (total_bytes play.plan)) [])
     (set m.states own.c (cond done Idle (Playing play)))
 step-play {m} {play} {done = true} own done =
-    halted-step own (record {
-      keep = total_bytes play.plan;
-      next = Idle;
-      shut = tt;
-      shares = λ t later. done-shares t m.heard play later done;
-    }) (record { sent = omega arith; most = omega arith })
+    subst (λ (keep : ℕ). IsHaltedAt m.heard m.entries (m.entries ++ halt_by own.c play.number keep)
+    (set m.states own.c Idle)) (all-sent m.heard play done) (idle-step own)
 step-play {done = false} own done = kept-step own
 
 step-state : (m : DayState) (state : ClientState) (own : BalancedClient m state)
@@ -153,18 +135,8 @@ step-state m _ own = kept-step own
 
 open-state : (m : DayState) (state : ClientState) (own : BalancedClient m state)
     → IsHaltedAt m.heard m.entries (m.entries ++ open_halt m.heard own.c state) (set m.states own.c (after_open state))
-open-state m Idle own = kept-step own
-open-state m (Playing play) own =
-    let keep = sent_by (booking_of play) m.heard in
-    halted-step own (record {
-      keep = keep;
-      next = Idle;
-      shut = tt;
-      shares = λ t later.
-          sym (share-done t m.heard (truncated_play play.start play.plan keep) later (omega arith));
-    }) (record { sent = omega arith; most = omega arith })
-open-state m (Pausing stop rest) own = kept-step own
-open-state m (Paused rest) own = kept-step own
+open-state m (Playing play) own = idle-step own
+open-state m _ own = kept-step own
 
 -- a way in which the plays of a day's clients are halted
 record Halting : Type 0 where
@@ -203,9 +175,8 @@ ending-next {m} {h} {n} inside e =
 ending : (m : DayState) (h : Halting) (n : ℕ) → n ≤ length m.states → IsBalanced m.entries m.states m.heard
     → Ending m h n
 ending m h zero most balanced = grind (arith, common_steps)
-ending m h (suc n) most balanced =
-    let one : n + 1 ≡ suc n = omega arith in
-    subst (Ending m h) one (ending-next (omega (arith, most)) (ending m h n (omega (arith, most)) balanced))
+ending m h (suc n) most balanced = search
+    (arith, ending-next (omega (arith, most)) (ending m h n (omega (arith, most)) balanced))
 
 all-ended : (m : DayState) (h : Halting) → IsBalanced m.entries m.states m.heard
     → IsHaltedAt m.heard m.entries (m.entries ++ halt_entries (h.halt m.heard) 0 m.states)
@@ -236,20 +207,8 @@ last-halted m balanced =
     all-ended m (record { halt = open_halt; after = λ heard. after_open; step = open-state }) balanced
 
 open-plays : (state : ClientState) → playing_one (after_open state) ≡ 0
-open-plays Idle = refl
-open-plays (Playing play) = refl
-open-plays (Pausing stop rest) = refl
-open-plays (Paused rest) = refl
-
-none-plays : (states : List ClientState) → sum_by playing_one (map after_open states) ≡ 0
-none-plays [] = refl
-none-plays (state ∷ states) =
-    search (open-plays state, none-plays states, sum_by-cons playing_one (after_open state) (map after_open states))
+open-plays state = search arith
 
 pub last-open : (m : DayState) → IsBalanced m.entries m.states m.heard → open_count (last_journal m) ≡ 0
-last-open m balanced = (last-halted m balanced).balanced.playing ∙ none-plays m.states
-
--- a play was admitted after the slot that was received last
-pub play-stays : (entries : List Entry) (heard t : ℕ) (begun : BegunPlay entries) → heard < begun.start → t ≤ heard
-    → booked_in (state_after (entries ++ begun.e ∷ [])) t ≡ booked_in (state_after entries) t
-play-stays entries heard t begun early past = grind (arith, common_steps)
+last-open m balanced = (last-halted m balanced).balanced.playing
+    ∙ sum-mapped after_open playing_one (λ s. 0) open-plays m.states ∙ sum-zero (λ s. 0) (λ s. refl) m.states

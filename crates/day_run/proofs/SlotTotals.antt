@@ -1,6 +1,6 @@
 -- Totals over slots: all that is booked in them, and the most in one of them.
-use Rattle.std.proofs.Common.{◌≡◌, ◌<◌, ◌≤◌, ◌+◌, ◌-◌, ◌*◌, ◌^◌, ℕ, zero, suc, max, List, [], ◌∷◌, ◌++◌, map, sum}
-use Rattle.std.proofs.Common.{add-one, arith, refl, sym, ap, ◌∙◌}
+use Rattle.std.proofs.Common.{◌≡◌, ◌<◌, ◌≤◌, ◌+◌, ◌-◌, ◌*◌, ◌^◌, ℕ, zero, suc, max, List, [], ◌∷◌, ◌++◌, map, add-one}
+use Rattle.std.proofs.Common.{arith, refl, sym, ap, ◌∙◌}
 use Rattle.std.specs.Prelude.{sum_by}
 use Rattle.std.specs.List.{fold, range_with_len}
 use Rattle.std.specs.Ordering.{nat_cmp, ord_max}
@@ -27,23 +27,19 @@ pub record RingSlots (slot from : ℕ) : Type 0 where
   pub ring : end ≤ now + RING_SLOTS
   pub first : now ≤ from
 
-pub booked-more : (next : NextSlot) → next.booked + next.here ≤ (next.slot + 1 - (next.from + 1)) * MAX_BYTES
-booked-more next = omega arith
-
 pub booked-fits : (next : NextSlot) → RingSlots next.slot next.from → next.booked + next.here < 2 ^ 64
 booked-fits next slots = omega arith
 
 -- ---- the sum, and the most
 -- the sum of one slot more
 pub sum-slots : (f : ℕ → ℕ) (a n : ℕ) → sum_by f (range_with_len a (n + 1)) ≡ sum_by f (range_with_len a n) + f (a + n)
-sum-slots f a n =
-    grind (
-      arith,
-      sum-map f (range_with_len a (n + 1)),
-      map-range_with_len_more f a n (a + n) refl,
-      sum_by_push,
-      sum-map f (range_with_len a n),
-    )
+sum-slots f a n = search (
+  arith,
+  sum-map f (range_with_len a (n + 1)),
+  map-range_with_len_more f a n (a + n),
+  sum-map f (range_with_len a n),
+  sum_by_push,
+)
 
 pub peak-push : (xs : List ℕ) (x : ℕ) → fold max 0 (xs ++ x ∷ []) ≡ max (fold max 0 xs) x
 peak-push xs x = fold-append max 0 xs (x ∷ [])
@@ -103,11 +99,6 @@ total-none T f a (suc n) none = grind (arith, none (a + n) (omega arith), total-
 pub total-past : (T : Total) (f : ℕ → ℕ) (a m n : ℕ) → ((t : ℕ) → a + m ≤ t → f t ≡ 0)
     → T.over f a m ≡ T.over f a (m + n)
 total-past T f a m n none = grind (arith, total-join T f a m n, total-none T f (a + m) n none)
-
--- the total through a slot
-pub total-next : (T : Total) (f : ℕ → ℕ) (from slot : ℕ) → from + 1 ≤ slot
-    → T.op (T.over f (from + 1) (slot - (from + 1))) (f slot) ≡ T.over f (from + 1) (slot + 1 - (from + 1))
-total-next T f from slot begun = grind arith
 
 -- slots after one up to another, and one between these
 pub record SlotSpan : Type 0 where

@@ -1,7 +1,7 @@
 -- What is true for every day.
 use Rattle.std.specs.Prelude.{ℕ, ◌≡◌, ◌+◌, ◌-◌, ◌*◌, ◌<◌, ◌≤◌, ◌⊎◌, ◌++◌, List, [], Option, Some}
-use Rattle.std.specs.Prelude.{Bool, true, false, None, All, codes, count_by, flat_map, fold}
-use Rattle.std.specs.Prelude.{length, map, max, slice_index_or, sum_by, take}
+use Rattle.std.specs.Prelude.{Bool, true, false, None, All, codes, count_by, flat_map, fold, length}
+use Rattle.std.specs.Prelude.{map, max, slice_index_or, sum_by, take}
 use Rattle.std.specs.List.{range_with_len}
 use Rattle.admission.specs.Histories.{booked_after, is_admission, is_halt, state_after}
 use Rattle.film_make.specs.Generator.{words_of}

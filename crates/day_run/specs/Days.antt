@@ -1,8 +1,8 @@
 -- A link's day: what the lines of a script bring on one link, line by line. Client C is maker C of
 -- the link's machine, and maker 0 looks.
-use Rattle.std.specs.Prelude.{ℕ, ◌+◌, ◌-◌, ◌≡◌, ◌<◌, ◌≤◌, ◌⊎◌, min, max, if◌then◌else◌, List}
-use Rattle.std.specs.Prelude.{[], ◌∷◌, ◌++◌, flat_map, length, map, replicate, sum_by}
-use Rattle.std.specs.Prelude.{slice_index_or, slice_set}
+use Rattle.std.specs.Prelude.{ℕ, ◌+◌, ◌-◌, ◌≡◌, ◌<◌, ◌≤◌, ◌⊎◌, min, max, if◌then◌else◌, List, []}
+use Rattle.std.specs.Prelude.{◌∷◌, ◌++◌, flat_map, length, map, replicate, sum_by, slice_index_or}
+use Rattle.std.specs.Prelude.{slice_set}
 use Rattle.std.specs.List.{range_with_len}
 use Rattle.plan_cert.specs.declared.Segment.{Segment}
 use Rattle.plan_cert.specs.PlanSlots.{total_bytes}
@@ -29,10 +29,10 @@ use Rattle.day_run.specs.declared.media.Source.{Source}
 use Rattle.day_script.specs.declared.scripts.Line.{Line}
 use Rattle.day_script.specs.declared.scripts.Line.TheVariants as lines
 use Rattle.day_script.specs.LineTexts.{fault_text, full_text, offer_text, slot_text, state_text}
-use Rattle.day_run.specs.ClientStates.{ClientState, Idle, Playing, Pausing, Paused, IfBusy}
-use Rattle.day_run.specs.ClientStates.{IsPause, MediaContent, Rest, ClientPlay}
-use Rattle.day_run.specs.ClientStates.{after_play, after_sending, booking_of, is_done, no_medium}
-use Rattle.day_run.specs.ClientStates.{sent_between, sent_by, source_content, whole_rest}
+use Rattle.day_run.specs.ClientStates.{ClientState, Idle, Playing, Pausing, Paused, IfBusy, IsPause}
+use Rattle.day_run.specs.ClientStates.{MediaContent, Rest, ClientPlay, after_play, after_sending}
+use Rattle.day_run.specs.ClientStates.{booking_of, is_done, no_medium, sent_between, sent_by}
+use Rattle.day_run.specs.ClientStates.{source_content, whole_rest}
 
 -- the steps of the link's capacity, the most entries of its journal, the time of a slot in
 -- 1/360,000 s, and what can be played

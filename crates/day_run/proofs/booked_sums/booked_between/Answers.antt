@@ -4,9 +4,7 @@ use Rattle.slot_calendar.specs.Calendars.{booked_at}
 use Rattle.admission.specs.Histories.{state_after}
 use Rattle.admission.specs.Machine.{booked_in}
 use Rattle.slot_calendar.proofs.CapacitySteps.{capacity-most}
-use Rattle.vod_base.specs.declared.limits.TheConstants.{MAX_BYTES}
-use Rattle.day_run.proofs.SlotTotals.{Total, booked-fits, booked-more, greatest, max-by-order, summed, total-next}
-use Rattle.day_run.proofs.SlotTotals.{total-past}
+use Rattle.day_run.proofs.SlotTotals.{Total, booked-fits, greatest, max-by-order, summed, total-past}
 use Rattle.day_run.proofs.booked_sums.booked_between.Goals as goal
 
 pub overflow_add-booked : goal.overflow_add-booked
@@ -16,15 +14,13 @@ pub loop-slot-preserved : goal.loop-slot-preserved
 loop-slot-preserved c =
     let calendar = c.calendar-calendar.result.now in
     let most = capacity-most calendar.steps c.loop-slot.slot c.booked_through.ensures.calendar.profile in
-    let small : c.booked-here.result ≤ MAX_BYTES = omega (arith, c.booked-here.ensures.within, most) in
     let f = booked_in (state_after c.args.book.now.entries) in
     let slot = c.loop-slot.slot in
     let from = c.args.from in
     let begun : from + 1 ≤ slot = omega arith in
     let here : c.booked-here.result ≡ f slot = grind arith in
     let total : (T : Total) (x : ℕ) → x ≡ T.over f (from + 1) (slot - (from + 1))
-    → T.op x c.booked-here.result ≡ T.over f (from + 1) (slot + 1 - (from + 1)) =
-    λ T x is. ap (T.op x) here ∙ ap (λ k. T.op k (f slot)) is ∙ total-next T f from slot begun in
+    → T.op x c.booked-here.result ≡ T.over f (from + 1) (slot + 1 - (from + 1)) = grind arith in
     record {
       few = grind arith;
       late = omega arith;
@@ -48,13 +44,10 @@ returns c =
       | inl short ↦
           let all : past + (to - from - past) ≡ to - from = omega (arith, le) in
           total-past T f (from + 1) past (to - from - past) (λ t late.
-          let empty : booked_at calendar t ≡ 0 =
-          c.booked_through.ensures.after t (omega (arith, late, known)) (omega (arith, late, short)) in
+          let empty : booked_at calendar t ≡ 0 = search arith in
           sym (c.calendar-calendar.ensures.stands.each t (omega (arith, late, known))) ∙ empty)
           ∙ ap (T.over f (from + 1)) all
-      | inr long ↦
-          let e : slot - (from + 1) ≡ to - from = omega (arith, long, c.loop-slot.invariant.late) in
-          ap (T.over f (from + 1)) e
+      | inr long ↦ grind arith
     ] in
     record {
       booked = c.loop-slot.invariant.sum ∙ whole summed;

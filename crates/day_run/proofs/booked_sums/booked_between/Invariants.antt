@@ -12,7 +12,6 @@ invariant-loop-slot l = record {
   late : l.slot ≤ max (l.from + 1) l.slot-end;
   sum : l.booked
       ≡ sum_by (booked_in (state_after l.fn.book.entries)) (range_with_len (l.from + 1) (l.slot - (l.from + 1)));
-  peak : l.peak
-      ≡ fold max 0 (map (booked_in (state_after l.fn.book.entries))
+  peak : l.peak ≡ fold max 0 (map (booked_in (state_after l.fn.book.entries))
       (range_with_len (l.from + 1) (l.slot - (l.from + 1))));
 }

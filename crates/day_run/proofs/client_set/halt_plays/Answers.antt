@@ -1,10 +1,6 @@
-use Rattle.std.proofs.Common.{◌+◌, ◌++◌, ◌∷◌, [], Some, None, map, ap, sym, subst, ◌∙◌, arith}
+use Rattle.std.proofs.Common.{◌+◌, Some, None, sym, subst, arith}
 use Rattle.std.proofs.lemmas.List.{append-nil, length-map}
-use Rattle.admission.specs.declared.entries.Answer.{Answer}
-use Rattle.admission.specs.declared.entries.Command.TheVariants.{Halt}
 use Rattle.day_script.proofs.Places.{Place}
-use Rattle.day_run.specs.Clients.{state_for, state_of}
-use Rattle.day_run.specs.Days.{entry_by}
 use Rattle.day_run.proofs.ClientSweepLemmas.{AreHaltedTo, book-grown, passed-next, swept-all}
 use Rattle.day_run.proofs.client_set.halt_plays.Goals.{in-Some, in_default}
 use Rattle.day_run.proofs.client_set.halt_plays.Goals as goal
@@ -28,10 +24,7 @@ loop-maker-preserved c =
             undone = tt;
             has = λ slot timed. told.halt slot i going timed;
             goes = λ slot timed. told.state slot going timed;
-            grown = book-grown _ (w.book-is ∙ w.halt-noted.ensures.noted.journal_is)
-                (ap (λ (answer : Answer). c.loop-maker.book.entries
-                ++ entry_by i (Halt w.in-Some.halt.number w.in-Some.halt.keep) answer ∷ [])
-                w.halt-noted.ensures.answer);
+            grown = search arith;
           }) c.loop-maker.invariant)
       | in_default w ↦
           let told = w.in_default.ensures {u = tt} in

@@ -1,10 +1,9 @@
-use Rattle.std.proofs.Common.{arith}
-use Rattle.std.proofs.Common.{◌≡◌, ◌==◌, ℕ, Bool, cond, eq-eqb, ne_eqb, sym, subst, ap, ◌∙◌, rules}
+use Rattle.std.proofs.Common.{arith, ◌≡◌, ◌==◌, ℕ, Bool, cond, eq-eqb, ne_eqb, sym, subst, ap, ◌∙◌, rules}
 use Rattle.pacer.specs.PacerStates.{PacerState}
 use Rattle.slot_calendar.specs.Plays.{Play as Booked, truncated_play}
 use Rattle.day_run.specs.Clients.{play_of, rest_of}
 use Rattle.day_run.specs.ClientStates.{IsPause, Paused, Pausing, Rest, sent_by}
-use Rattle.day_run.proofs.PauseLemmas.{PauseLeft, TimedPlay, halts, kept-sent, left-rest, left-timed, pause-of}
+use Rattle.day_run.proofs.ScriptLines.{PauseLeft, TimedPlay, halts, kept-sent, left-rest, left-timed, pause-of}
 use Rattle.day_run.proofs.clients.pause_play.Goals.{After-run_after-run}
 use Rattle.day_run.proofs.clients.pause_play.Goals as goal
 
@@ -45,9 +44,7 @@ paused-as : {heard : ℕ} {all : Bool} (c : After-run_after-run) → TimedPlay c
     == c.ask_halt-keep.result) ≡ all
     → IsPause (play_of c.args.play) heard c.ask_halt-keep.result
     (cond all (Paused (left c)) (Pausing (kept c) (left c)))
-paused-as {heard} c own is =
-    subst (λ (b : Bool). IsPause (play_of c.args.play) heard c.ask_halt-keep.result
-    (cond b (Paused (left c)) (Pausing (kept c) (left c)))) is (pause-of own (paused c))
+paused-as {heard} c own is = search (arith, pause-of own (paused c))
 
 pub returns-then-sent-keep-clause-going : goal.returns-then-sent-keep-clause-going
 returns-then-sent-keep-clause-going c = grind arith
@@ -71,15 +68,13 @@ returns c =
         rest = left-rest c.requires.playing (paused here);
         keep_is = ap (λ (p : PacerState). p.keep) is ∙ sym c.ask_halt-keep.ensures.value;
         pacing = c.ask_halt-keep.ensures.pacing;
-        all_sent = ap (λ (p : PacerState). p.sent) is ∙ c.requires.playing.all_sent
-            ∙ sym (ap (λ (p : PacerState). p.due) is);
+        all_sent = grind arith;
       };
       quiet = search rules;
       pause = λ heard timed.
           let own : TimedPlay c.args.play heard = record { playing = c.requires.playing; timed = timed } in
-          let booked : kept here ≡ truncated_play c.ask_halt-keep.new.self.start c.ask_halt-keep.new.self.plan keep =
-          sym (ap (λ (x : PacerState). truncated_play x.start x.plan keep) is
-          ∙ ap (λ s. truncated_play c.args.play.pacer.start s keep) c.requires.playing.plan_is) in
+          let booked : kept here
+          ≡ truncated_play c.ask_halt-keep.new.self.start c.ask_halt-keep.new.self.plan keep = search arith in
           subst (IsPause (play_of c.args.play) heard keep) (ap (λ (b : Booked). Pausing b (left here)) booked)
           (paused-as here own (ne_eqb _ _
           (λ e. c.if-sent-keep.false (c.sent-sent.ensures.value ∙ sym (kept-sent own (paused here).at) ∙ e))));

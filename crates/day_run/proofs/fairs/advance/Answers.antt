@@ -1,7 +1,7 @@
 use Rattle.std.proofs.Common.{◌≡◌, ◌+◌, sym, ◌∙◌, arith}
 use Rattle.day_run.specs.MachineState.{day_state_of}
-use Rattle.day_run.proofs.LineOutcomes.{ready-sent, slot-ready}
-use Rattle.day_run.proofs.FairTurns.{same-counts}
+use Rattle.day_run.proofs.LineOutcomes.{ready-sent, slot-left}
+use Rattle.day_run.proofs.FairLines.{same-counts}
 use Rattle.day_run.proofs.fairs.advance.Goals as goal
 
 pub overflow_add-counts : goal.overflow_add-counts
@@ -13,8 +13,8 @@ overflow_add-counts c =
 
 pub returns-then-later-gt0-clause-ready : goal.returns-then-later-gt0-clause-ready
 returns-then-later-gt0-clause-ready c =
-    slot-ready (day_state_of c.args.machine.now) _ (c.args.machine.now.heard + c.args.later) (omega arith)
-    c.slot-passed.ensures.moment c.requires.ready
+    (slot-left {limit = 0} {n = 0} (day_state_of c.args.machine.now) _ (c.args.machine.now.heard + c.args.later)
+    (omega arith) c.slot-passed.ensures.moment c.requires.ready).ready
 
 pub returns-then-later-gt0-clause-fitting : goal.returns-then-later-gt0-clause-fitting
 returns-then-later-gt0-clause-fitting c =

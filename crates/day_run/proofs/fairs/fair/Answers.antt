@@ -1,31 +1,20 @@
-use Rattle.std.proofs.Common.{arith}
-use Rattle.std.proofs.Common.{◌≡◌, ◌++◌, ℕ, List, map, ap, subst, ◌∙◌}
+use Rattle.std.proofs.Common.{arith, ◌≡◌, ℕ, map, ap, subst, ◌∙◌}
 use Rattle.film_make.specs.Generator.{words_left, words_of}
-use Rattle.admission.specs.declared.book.TheConstants.{MAX_ENTRIES}
 use Rattle.day_run.specs.declared.fairs.TheConstants.{SLOT_UNITS}
-use Rattle.day_run.specs.FairDays.{AreTurns, after_traces, counts_of, entry_counts_of, fair_link, traces_drawn}
+use Rattle.day_run.specs.FairDays.{AreTurns, after_traces, fair_link, traces_drawn}
 use Rattle.day_run.specs.Days.{SharedLink, first_moment}
-use Rattle.day_run.specs.FairProgress.{sizes_in}
-use Rattle.day_script.specs.LineTexts.{fair_text}
 use Rattle.day_run.specs.MachineState.{day_state_of, link_on}
-use Rattle.day_run.specs.ClientStates.{MediaContent, trace_content}
+use Rattle.day_run.specs.ClientStates.{trace_content}
 use Rattle.day_run.specs.MediaContents.{media_content}
 use Rattle.day_run.proofs.fairs.fair.Goals as goal
 
 pub returns-clause-fair : goal.returns-clause-fair
 returns-clause-fair c =
     let contents : map (media_content SLOT_UNITS) c.deref-2.result.now
-    ≡ map (trace_content SLOT_UNITS) (traces_drawn 16 (words_of c.args.seed)) =
-    ap (map (media_content SLOT_UNITS)) c.deref-2.ensures.value ∙ c.in_ok-media.ensures.contents
-    ∙ ap (map (trace_content SLOT_UNITS))
-    (ap sizes_in c.deref.ensures.value ∙ c.in_ok-traces.ensures.sizes ∙ ap (traces_drawn 16) c.new-draws.ensures) in
-    let link : link_on c.in_ok-machine.machine ≡ fair_link c.args.profile (words_of c.args.seed) =
-    c.in_ok-machine.ensures.link
-    ∙ ap (λ (t : List MediaContent).
-    record { steps = c.args.profile; limit = MAX_ENTRIES; slot_units = SLOT_UNITS; media = t }) contents in
+    ≡ map (trace_content SLOT_UNITS) (traces_drawn 16 (words_of c.args.seed)) = grind arith in
+    let link : link_on c.in_ok-machine.machine ≡ fair_link c.args.profile (words_of c.args.seed) = grind arith in
     let run = c.in_ok-counts.ensures.come in
     let evening = day_state_of c.run_turns.new.machine in
-    let entries = c.count_entries-entries.result in
     let drawn = subst (λ (w : ℕ → ℕ). AreTurns (fair_link c.args.profile (words_of c.args.seed)) w run.turns
     first_moment evening) (c.in_ok-traces.ensures.left ∙ ap (after_traces 16) c.new-draws.ensures)
     (subst (λ (l : SharedLink). AreTurns l (words_left c.draw_traces.new.draws) run.turns first_moment evening) link

@@ -1,5 +1,5 @@
 use Rattle.std.proofs.Common.{arith}
-use Rattle.day_run.proofs.FullLineTexts.{entries-other}
+use Rattle.day_run.proofs.DayPrefixLemmas.{entries-other}
 use Rattle.day_run.proofs.fairs.law_entries_other.Goals as goal
 
 pub returns : goal.returns

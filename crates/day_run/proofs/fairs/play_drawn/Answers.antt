@@ -1,12 +1,11 @@
-use Rattle.std.proofs.Common.{arith}
-use Rattle.std.proofs.Common.{◌≡◌, ◌+◌, ◌%◌, IfOk, ap, subst, ◌∙◌}
-use Rattle.film_make.specs.Generator.{words_after, words_left}
+use Rattle.std.proofs.Common.{arith, ◌≡◌, ◌+◌, ◌%◌, IfOk, ap, subst, ◌∙◌}
+use Rattle.film_make.specs.Generator.{words_left}
 use Rattle.film_make.proofs.GeneratorLemmas.{words_after-twice}
 use Rattle.day_run.specs.ClientStates.{Rest}
 use Rattle.day_run.specs.Days.{IsPlayLine, rest_at}
 use Rattle.day_run.specs.declared.fairs.TheConstants.{BUFFER_SIZES, LEAST_BUFFER}
 use Rattle.day_run.specs.MachineState.{link_on, day_state_of, reply_text}
-use Rattle.day_run.proofs.FairTurns.{ok-of, second-word, third-word, two-left}
+use Rattle.day_run.proofs.FairLines.{ok-of, second-word, third-word, two-left}
 use Rattle.day_run.proofs.fairs.play_drawn.Goals as goal
 
 pub returns-clause-line : goal.returns-clause-line

@@ -1,10 +1,9 @@
-use Rattle.std.proofs.Common.{[], ap, sym, subst, refl, ◌∙◌, arith}
+use Rattle.std.proofs.Common.{ap, sym, subst, refl, arith}
 use Rattle.film_make.specs.Generator.{words_left}
 use Rattle.day_run.specs.Days.{DayState, SharedLink}
-use Rattle.day_run.specs.FairDays.{counts_of}
 use Rattle.day_run.specs.FairProgress.{IsTurnResult, drawn_to}
 use Rattle.day_run.specs.MachineState.{day_state_of}
-use Rattle.day_run.proofs.FairTurns.{come-next, ready-morning}
+use Rattle.day_run.proofs.FairLines.{come-next, ready-morning}
 use Rattle.day_run.proofs.fairs.run_turns.Goals as goal
 
 pub loop-turn-init : goal.loop-turn-init
@@ -32,11 +31,6 @@ loop-turn-preserved c =
       kept = grind arith;
       heard = omega (arith, ran.heard, inv.heard);
       fitting = ran.fitting;
-      come = come-next (record {
-        old = old;
-        new = new;
-        come = inv.come;
-        turned = subst (λ (l : SharedLink). IsTurnResult l old new) inv.kept.link ran.turned;
-        last = ran.fitting.last_is;
-      });
+      come = come-next old new inv.come (subst (λ (l : SharedLink). IsTurnResult l old new) inv.kept.link ran.turned)
+          ran.fitting.last_is;
     }

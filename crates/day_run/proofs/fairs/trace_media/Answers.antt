@@ -4,6 +4,3 @@ use Rattle.day_run.proofs.fairs.trace_media.Goals as goal
 
 pub loop-trace-preserved : goal.loop-trace-preserved
 loop-trace-preserved c = grind (arith, common_steps)
-
-pub returns-clause-contents : goal.returns-clause-contents
-returns-clause-contents c = grind (arith, common_steps)

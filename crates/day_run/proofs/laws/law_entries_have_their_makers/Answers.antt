@@ -1,6 +1,5 @@
-use Rattle.day_run.proofs.JournalMakers.{line-made}
+use Rattle.day_run.proofs.DayPrefixLemmas.{line-made}
 use Rattle.day_run.proofs.LineOutcomes.{taken-ready}
-use Rattle.day_run.proofs.ScriptLines.{LinesTaken}
 use Rattle.day_run.proofs.SlotBalance.{last-halted}
 use Rattle.day_run.proofs.laws.law_entries_have_their_makers.Goals as goal
 
@@ -9,11 +8,7 @@ returns c = record {
   line = λ link line old new text is.
       line-made (record { link = link; old = old; new = new; text = text }) line is;
   halts = λ link sources lines texts moment clients are run.
-      let taken : LinesTaken link sources =
-      record { lines = lines; texts = texts; moment = moment; clients = clients; are = are; run = run } in
-      (taken-ready taken).balanced.halts.own;
+      (taken-ready link sources lines texts moment clients are run).balanced.halts.own;
   end = λ link sources lines texts moment clients are run.
-      let taken : LinesTaken link sources =
-      record { lines = lines; texts = texts; moment = moment; clients = clients; are = are; run = run } in
-      (last-halted moment (taken-ready taken).balanced).balanced.halts.own;
+      (last-halted moment (taken-ready link sources lines texts moment clients are run).balanced).balanced.halts.own;
 }

@@ -1,4 +1,4 @@
-use Rattle.day_run.proofs.OfferLaws.{offer-told}
+use Rattle.day_run.proofs.DayPrefixLemmas.{offer-told}
 use Rattle.day_run.proofs.laws.law_offer_is_the_earliest_start.Goals as goal
 
 pub returns : goal.returns

@@ -1,8 +1,4 @@
-use Rattle.std.proofs.Common.{◌+◌, List, ℕ, length, ap, sym, subst, refl, ◌∙◌, arith}
-use Rattle.film_frames.specs.Tracks.{IsBoundary, framed_bytes}
-use Rattle.plan_cert.specs.declared.Segment.{Segment}
-use Rattle.plan_cert.specs.PlanSlots.{total_bytes}
-use Rattle.pacer.specs.PacerStates.{PacerState, is_done}
+use Rattle.std.proofs.Common.{arith}
 use Rattle.day_run.proofs.play_start.begin_play.Goals as goal
 
 pub as_sending-requires : goal.as_sending-requires

@@ -1,14 +1,21 @@
-use Rattle.std.proofs.Common.{ℕ, List, ◌+◌, take, get_or, sym, subst, refl, ◌∙◌, arith}
+use Rattle.std.proofs.Common.{ℕ, List, ◌+◌, take, get_or, sym, subst, refl, arith, ◌≡◌}
 use Rattle.std.proofs.lemmas.List.{take_more}
 use Rattle.day_script.specs.declared.scripts.Line.TheVariants.{Play}
-use Rattle.day_script.specs.Scripts.{AreClients}
+use Rattle.day_script.specs.Scripts.{AreClients, latest_slot, slot_after}
 use Rattle.day_run.specs.Days.{IsLine, SharedLink}
 use Rattle.day_run.specs.MachineState.{HasRun, link_on, day_state_of}
 use Rattle.day_script.proofs.Places.{Place}
 use Rattle.day_run.proofs.ScriptLines.{LastLine, run-next}
 use Rattle.day_script.proofs.ScriptLines.{clients-more}
-use Rattle.day_run.proofs.SourceMedia.{heard-next}
+use Rattle.std.proofs.lemmas.Grind.{common_steps}
+use Rattle.day_script.specs.declared.scripts.Line.{Line}
 use Rattle.day_run.proofs.script_run.run_lines.Goals as goal
+
+-- the slot that was received last, after one line more
+heard-next : {heard next : ℕ} (lines : List Line) (place : Place lines)
+    → next ≡ slot_after heard (get_or lines place.index place.none) → heard ≡ latest_slot (take place.index lines)
+    → next ≡ latest_slot (take (place.index + 1) lines)
+heard-next {next} lines place n h = grind (arith, common_steps)
 
 pub loop-line-preserved : goal.loop-line-preserved
 loop-line-preserved c =

@@ -1,7 +1,4 @@
 use Rattle.std.proofs.Common.{arith}
-use Rattle.std.proofs.Common.{subst}
-use Rattle.day_run.specs.declared.clients.Client.{Client}
-use Rattle.day_run.specs.Clients.{IsPauseOf, IsTimed}
 use Rattle.day_run.proofs.clients.Client.pause.Goals as goal
 
 pub returns-in-Playing-clause-pause : goal.returns-in-Playing-clause-pause

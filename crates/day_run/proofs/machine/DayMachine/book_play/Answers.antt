@@ -1,6 +1,4 @@
-use Rattle.std.proofs.Common.{rules}
-use Rattle.std.proofs.Common.{◌≡◌, List, ◌++◌, ◌∷◌, [], ℕ, min, length, map, set, ap, refl, sym, subst, inl, inr, ◌∙◌}
-use Rattle.std.proofs.Common.{arith, rules}
+use Rattle.std.proofs.Common.{rules, ◌≡◌, List, ℕ, min, length, map, set, ap, refl, sym, subst, inr, ◌∙◌, arith}
 use Rattle.plan_cert.specs.PlanSlots.{total_bytes}
 use Rattle.admission.specs.declared.entries.Command.TheVariants.{Play}
 use Rattle.admission.specs.declared.entries.Entry.{Entry as JournalEntry}
@@ -10,11 +8,10 @@ use Rattle.admission.specs.Machine.{CanHalt, IsAnswer}
 use Rattle.vod_base.specs.declared.links.TheConstants.{LATEST_SLOT}
 use Rattle.day_run.specs.declared.clients.Client.TheVariants.{Playing}
 use Rattle.day_run.specs.Clients.{rest_of, state_of}
-use Rattle.day_run.specs.Days.{entry_by, full_of, IsPlanned, with_play}
-use Rattle.day_script.specs.LineTexts.{full_text}
+use Rattle.day_run.specs.Days.{entry_by, IsPlanned, with_play}
 use Rattle.day_run.specs.MachineState.{link_on, day_state_of, reply_text}
 use Rattle.day_run.proofs.JournalStepLemmas.{day-noted, day-played, played-now}
-use Rattle.day_run.proofs.LineStepLemmas.{noted, states-played, states-same}
+use Rattle.day_run.proofs.ScriptLines.{noted, states-played, states-same}
 use Rattle.day_run.specs.declared.clients.Client.{Client}
 use Rattle.day_run.specs.declared.machine.LineAnswer.TheVariants.{Entry}
 use Rattle.day_run.proofs.machine.DayMachine.book_play.Goals.{In-Ok}
@@ -45,17 +42,12 @@ answered c clients states =
       done = inr (record {
         room = c.in-Ok.ensures.room;
         answer = c.in-Ok.noted.answer;
-        noted = noted (record {
-          made = made c;
-          is = ap (λ n. entry_by n (Play (slot c) c.args.plan) c.in-Ok.noted.answer) c.from.ensures
-              ∙ ap (λ n. entry_by c.args.client (Play n c.args.plan) c.in-Ok.noted.answer) (late c);
-          answered = its.answer_is;
-          place = c.in-Ok.noted.place;
-          place_is = its.place_is;
-          entries_are = ap (λ (j : Journal). j.entries) its.journal_is;
-          states_are = states;
-          heard_is = refl;
-        });
+        noted = noted (day_state_of c.args.self.now) (record {
+          entries = c.play.new.self.entries;
+          states = map state_of clients;
+          heard = c.args.self.now.heard;
+        }) (made c) c.in-Ok.noted.place (search arith) its.answer_is its.place_is
+            (ap (λ (j : Journal). j.entries) its.journal_is) states refl;
       });
     }
 
@@ -89,17 +81,8 @@ returns-in-Some c =
       kept = search rules;
       heard = search rules;
       planned = answered here (set old.clients.items c.args.client (Playing play))
-          (states-played old.clients.items c.args.client (record {
-            rest = c.args.rest;
-            plan = c.args.plan;
-            answer = c.in-Ok.noted.answer;
-            start = c.in-Some.start;
-            answer_is = c.in-Some.ensures.some;
-            number_is = begun.number ∙ its.place_is;
-            rest_is = begun.rest_is;
-            plan_is = begun.plan ∙ c.requires.kept;
-            start_is = begun.start;
-          }));
+          (states-played old.clients.items c.args.client play c.in-Some.ensures.some
+          (begun.number ∙ its.place_is) begun.rest_is (begun.plan ∙ c.requires.kept) begun.start);
     }
 
 pub returns-in_default : goal.returns-in_default
@@ -109,17 +92,8 @@ returns-in_default c =
     let is = c.in-Ok.ensures.noted.journal_is in
     let now = played-now old.book.entries (made here) (slot here) c.args.plan refl in
     record {
-      machine = day-noted old c.requires.machine (record {
-        e = made here;
-        entries_are = ap (λ (j : Journal). j.entries) is;
-        none = λ number halts. halts;
-        now = omega (arith, now, c.requires.machine.now_heard);
-      });
-      kept = record {
-        link = ap (λ (j : Journal). link_on (record old { book = j })) is;
-        steps = ap (λ (j : Journal). j.steps) is;
-        media = refl;
-      };
+      machine = search (arith, day-noted);
+      kept = search arith;
       heard = search rules;
       planned = answered here old.clients.items
           (states-same (record { client = c.args.client; rest = rest_of c.args.rest; plan = c.args.plan })
@@ -127,18 +101,4 @@ returns-in_default c =
     }
 
 pub returns-in-Err-clause-planned : goal.returns-in-Err-clause-planned
-returns-in-Err-clause-planned c =
-    let old = c.args.self.now in
-    let counts : c.in-Err.refused.full ≡ full_of old.book.entries =
-    grind (arith, c.in-Err.ensures.counts) in
-    record {
-      plan = c.args.plan;
-      plan_is = c.requires.plan.plan_is;
-      done = inl (record {
-        full = c.in-Err.ensures.full;
-        told = record {
-          kept = ap (λ j. day_state_of (record old { book = j })) c.in-Err.ensures.left;
-          text_is = ap full_text counts;
-        };
-      });
-    }
+returns-in-Err-clause-planned c = search arith

@@ -1,4 +1,4 @@
-use Rattle.std.proofs.Common.{◌≡◌, ◌<◌, ◌≤◌, ◌+◌, ℕ, max, refl, sym, ap, subst, ◌∙◌, inr, arith, List}
+use Rattle.std.proofs.Common.{◌≡◌, ◌<◌, ◌≤◌, ◌+◌, ℕ, max, refl, sym, subst, ◌∙◌, inr, arith, List}
 use Rattle.slot_calendar.specs.Profiles.{capacity_at}
 use Rattle.admission.specs.Histories.{state_after}
 use Rattle.admission.specs.Machine.{booked_in, plays_of}
@@ -11,7 +11,7 @@ use Rattle.day_run.specs.Clients.{rest_of}
 use Rattle.day_run.specs.Days.{IsOfferLine, rest_at}
 use Rattle.day_script.specs.LineTexts.{offer_text}
 use Rattle.day_run.specs.MachineState.{link_on, day_state_of}
-use Rattle.day_run.specs.ClientStates.{Rest, MediaContent, no_medium, whole_rest}
+use Rattle.day_run.specs.ClientStates.{Rest}
 use Rattle.day_run.proofs.machine.DayMachine.offer.Goals as goal
 
 pub returns : goal.returns
@@ -36,10 +36,7 @@ returns c =
     λ s. IsOffer 0 (booked_in state) (capacity_at s) plan (c.max.result + 1) found in
     let first : c.max.result + 1 ≡ max state.now r.heard + 1 = omega (arith, c.calendar-calendar.ensures.now) in
     let F : ℕ → Type 0 = λ n. IsOffer 0 (booked_in state) (capacity_at r.book.steps) plan n found in
-    let at : rest_of rest ≡ rest_at (link_on r) c.args.source c.args.buffer c.args.delay =
-    c.in-Some.ensures.whole
-    ∙ ap (λ (t : MediaContent). whole_rest r.slot_units t c.args.buffer c.args.delay)
-    (sym (c.medium_at.ensures r.slot_units no_medium)) in
+    let at : rest_of rest ≡ rest_at (link_on r) c.args.source c.args.buffer c.args.delay = search arith in
     subst (λ (x : Rest). IsOfferLine (link_on r) x c.args.wait (day_state_of r) (day_state_of r) (offer_text found))
     at (inr (record {
       plan = plan;

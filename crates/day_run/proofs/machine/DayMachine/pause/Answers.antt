@@ -5,15 +5,14 @@ use Rattle.admission.specs.declared.entries.Answer.TheVariants.{Halted}
 use Rattle.admission.specs.declared.entries.Command.TheVariants.{Halt}
 use Rattle.admission.specs.declared.entries.Entry.{Entry}
 use Rattle.admission.specs.Books.{Journal}
-use Rattle.day_run.specs.Clients.{IsBooked, IsGoing, IsTimed, state_of}
+use Rattle.day_run.specs.Clients.{IsGoing, IsTimed, state_of}
 use Rattle.day_run.proofs.JournalStepLemmas.{day-halted, open-halt}
 use Rattle.day_run.specs.Days.{IsNoted, IsPauseLine, DayState, entry_by, state_at}
 use Rattle.day_run.specs.MachineState.{link_on, day_state_of, reply_text}
 use Rattle.day_run.specs.ClientStates.{ClientState}
 use Rattle.day_run.specs.declared.machine.LineAnswer.TheVariants as tolds
-use Rattle.day_run.proofs.LineStepLemmas.{no-pause, noted, paused-play}
-use Rattle.day_run.proofs.ClientSweepLemmas.{state-at, states-set}
-use Rattle.day_run.proofs.ScriptLines.{LineStep}
+use Rattle.day_run.proofs.ScriptLines.{noted, paused-play}
+use Rattle.day_run.proofs.ClientSweepLemmas.{states-set}
 use Rattle.day_run.proofs.machine.DayMachine.pause.Goals.{After-pause}
 use Rattle.day_run.proofs.machine.DayMachine.pause.Goals as goal
 
@@ -57,8 +56,7 @@ returns-in-Some c =
           command = refl;
           its = open-halt client (record {
             going = subst IsGoing (sym c.index_mut.ensures.value) (day.going.each c.args.client client (inside here));
-            booked = subst (IsBooked old.book.entries c.args.client) (sym c.index_mut.ensures.value)
-                (day.booked.each c.args.client client (inside here));
+            booked = search arith;
           }) c.in-Some.ensures.some;
         };
         entries_are = y;
@@ -73,39 +71,11 @@ returns-in-Some c =
         keep = halt.keep;
         state = state_of next;
         pause = its.pause;
-        noted = subst N its.number_is (noted {link = link_on old} {old = day_state_of old} {new = new} (record {
-          made = e;
-          is = cc (c.from.ensures, c.halt-noted.ensures.answer);
-          answered = made.answer_is;
-          place = c.halt-noted.result.place;
-          place_is = made.place_is;
-          entries_are = y;
-          states_are = states-set old.clients.items c.args.client next;
-          heard_is = refl;
-        }));
+        noted = subst N its.number_is (noted (day_state_of old) new e c.halt-noted.result.place
+            (cc (c.from.ensures, c.halt-noted.ensures.answer)) made.answer_is made.place_is y
+            (states-set old.clients.items c.args.client next) refl);
       });
     }
 
 pub returns-in-None : goal.returns-in-None
-returns-in-None c =
-    let old = c.args.self.now in
-    let client = c.index_mut.result.now in
-    let clients = set old.clients.items c.args.client c.pause.new.self in
-    let step : LineStep = record {
-      link = link_on old;
-      old = day_state_of old;
-      new = record (day_state_of old) { states = map state_of clients };
-      text = reply_text old.book.entries tolds.State;
-    } in
-    let same : clients ≡ old.clients.items =
-    ap (set old.clients.items c.args.client) (c.in-None.ensures.none ∙ c.index_mut.ensures.value)
-    ∙ set-get_or old.clients.items c.args.client client in
-    let P : ClientState → Type 0 = λ s. IsPauseLine step.link c.args.client s step.old step.new step.text in
-    record {
-      machine = grind (arith, common_steps);
-      kept = search rules;
-      heard = search rules;
-      line = subst P (at (goal.at.returns-in-None c).After-pause)
-          (no-pause step c.args.client client c.in-None.ensures.idle
-          (record { kept = ap (λ l. record (day_state_of old) { states = map state_of l }) same; text_is = refl }));
-    }
+returns-in-None c = search (arith, at (goal.at.returns-in-None c).After-pause, set-get_or)

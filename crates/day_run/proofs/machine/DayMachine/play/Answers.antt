@@ -1,25 +1,19 @@
 use Rattle.std.proofs.lemmas.Grind.{common_steps}
-use Rattle.std.proofs.Common.{◌≡◌, ◌<◌, false, length, IfOk, ap, sym, subst, ◌∙◌, arith}
+use Rattle.std.proofs.Common.{◌≡◌, false, IfOk, subst, arith}
 use Rattle.day_run.specs.Clients.{rest_of, state_of}
 use Rattle.day_run.specs.Days.{IsPlayLine, rest_at, state_at}
 use Rattle.day_run.specs.MachineState.{link_on, day_state_of, reply_text}
-use Rattle.day_run.specs.ClientStates.{MediaContent, Rest, is_busy, no_medium, whole_rest}
-use Rattle.day_run.proofs.LineStepLemmas.{play-ok}
-use Rattle.day_run.proofs.ClientSweepLemmas.{state-at}
+use Rattle.day_run.specs.ClientStates.{Rest, is_busy}
+use Rattle.day_run.proofs.ScriptLines.{play-ok}
 use Rattle.day_run.proofs.machine.DayMachine.play.Goals as goal
 
 pub returns-in-Some-clause-line : goal.returns-in-Some-clause-line
 returns-in-Some-clause-line c =
     let old = c.args.self.now in
     let client = c.index.result.now in
-    let inside : c.args.client < length old.clients.items = grind arith in
-    let one : rest_of c.in-Some.rest ≡ rest_at (link_on old) c.args.source c.args.buffer c.args.delay =
-    c.in-Some.ensures.whole
-    ∙ ap (λ (t : MediaContent). whole_rest old.slot_units t c.args.buffer c.args.delay)
-    (sym (c.medium_at.ensures old.slot_units no_medium)) in
+    let one : rest_of c.in-Some.rest ≡ rest_at (link_on old) c.args.source c.args.buffer c.args.delay = search arith in
     let own : state_of client ≡ state_at (day_state_of old) c.args.client = grind (arith, common_steps) in
-    let free : is_busy (state_at (day_state_of old) c.args.client) ≡ false =
-    ap is_busy (sym own) ∙ sym c.is_busy.ensures ∙ c.if-is_busy.false in
+    let free : is_busy (state_at (day_state_of old) c.args.client) ≡ false = search arith in
     let new = c.ask.new.self in
     subst (λ (rest : Rest). IfOk c.ask.result (λ told. IsPlayLine (link_on old) c.args.client rest (day_state_of old)
     (day_state_of new) (reply_text new.book.entries told))) one (play-ok _ c.ask.result (record {
