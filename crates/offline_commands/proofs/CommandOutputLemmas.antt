@@ -1,6 +1,6 @@
 -- What the commands' answers mean, in terms of the definitions that the run cites.
-use Rattle.std.proofs.Common.{◌≡◌, ◌∙◌, ℕ, List, ◌++◌, Some, Result, Ok, Vec, Global, ap, subst, sym}
-use Rattle.std.proofs.Common.{◌<◌, ◌^◌, All, Bool, Option, length, refl, arith}
+use Rattle.std.proofs.Common.{◌≡◌, ◌∙◌, ℕ, List, ◌++◌, Some, Result, Ok, Vec, Global, ap, subst, sym, ◌<◌, ◌^◌, All}
+use Rattle.std.proofs.Common.{Bool, Option, length, refl, arith}
 use Rattle.std.specs.Prelude.{IfOk, OnOk, codes}
 use Rattle.vod_base.specs.IoState.{File, file_named}
 use Rattle.plan_cert.specs.declared.Segment.{Segment}
@@ -36,12 +36,11 @@ certificate_read {written} {slots} {bytes} found written_is certificate segments
 
 -- what was written of a scan, whose first line and whose units were written one after another
 pub listed : {told : Option (List File)} {film : List ℕ} {faults faults' : ℕ} {out out' : Option (List ℕ)}
-    {is_whole : Bool} {head : List ℕ} {size rate pictures : ℕ} {units : List PictureUnit} →
-    pictures ≡ length units → head ≡ film_line size rate pictures →
-    (size < 2 ^ 64) × (rate < 2 ^ 64) × (pictures < 2 ^ 64) → All IsShortUnit units →
-    ((held : List File) → told ≡ Some held → HoldsFilm held film size rate units) →
-    IsTextWritten faults faults' out out' (head ++ unit_lines 0 units ++ codes "end\n") is_whole →
-    IsListed told film faults faults' out out' is_whole
+    {is_whole : Bool} {head : List ℕ} {size rate pictures : ℕ} {units : List PictureUnit} → pictures ≡ length units
+    → head ≡ film_line size rate pictures → (size < 2 ^ 64) × (rate < 2 ^ 64) × (pictures < 2 ^ 64)
+    → All IsShortUnit units → ((held : List File) → told ≡ Some held → HoldsFilm held film size rate units)
+    → IsTextWritten faults faults' out out' (head ++ unit_lines 0 units ++ codes "end\n") is_whole
+    → IsListed told film faults faults' out out' is_whole
 listed {size} {rate} {units} count head short units_short holds written =
     let counted : length units < 2 ^ 64 = omega (arith, count, short.2) in
     record {

@@ -1,7 +1,7 @@
 -- The films and traces that a script names.
-use Rattle.std.proofs.Common.{◌≡◌, ◌∙◌, ◌+◌, ◌-◌, ◌<◌, ◌≤◌, ℕ, List, [], ◌∷◌, ◌++◌, Option, Some}
-use Rattle.std.proofs.Common.{None, true, length, take, drop, get_or, refl, sym, ap, subst, suc, zero}
-use Rattle.std.proofs.Common.{add-one, arith, inl, inr, string_bytes}
+use Rattle.std.proofs.Common.{◌≡◌, ◌∙◌, ◌+◌, ◌-◌, ◌<◌, ◌≤◌, ℕ, List, [], ◌∷◌, ◌++◌, Option, Some, None, true, length}
+use Rattle.std.proofs.Common.{take, drop, get_or, refl, sym, ap, subst, suc, zero, add-one, arith, inl, inr}
+use Rattle.std.proofs.Common.{string_bytes}
 use Rattle.std.specs.Prelude.{All, slice_index_or}
 use Rattle.std.specs.Option.{option_and_then}
 use Rattle.std.proofs.Math.Seq.{drop-cons, get_or-append_seam}
@@ -32,9 +32,9 @@ use Rattle.day_script.specs.ScriptReading.{name_of, names_of, nothing_read}
 use Rattle.inputs.proofs.ReadLemmas.{one_file}
 use Rattle.inputs.proofs.VideoLemmas.{held_not_refused}
 use Rattle.inputs.proofs.ScanLemmas.{read_trouble_map}
-use Rattle.offline_commands.specs.Days.{AreHeldAs, HoldsScript, IsDayRefused, IsFirstNamedRefused}
-use Rattle.offline_commands.specs.Days.{IsHeldAs, IsHeldUnder, IsNameOf, IsNamedRefused}
-use Rattle.offline_commands.specs.Days.{IsNotRefusedAs, IsRefusedAs, IsScriptOf, IsScriptRefused, names_in}
+use Rattle.offline_commands.specs.Days.{AreHeldAs, HoldsScript, IsDayRefused, IsFirstNamedRefused, IsHeldAs}
+use Rattle.offline_commands.specs.Days.{IsHeldUnder, IsNameOf, IsNamedRefused, IsNotRefusedAs, IsRefusedAs, IsScriptOf}
+use Rattle.offline_commands.specs.Days.{IsScriptRefused, names_in}
 use Rattle.offline_commands.proofs.PlanUniqueness.{trace_not_refused}
 
 abbrev bytes_of : Named → List ℕ
@@ -63,9 +63,8 @@ held_as {kind} {name} {named} held source read is =
     (subst (λ (k : SourceKind). IsHeldUnder k held name source) (sym read.kind_is) is)
 
 -- a name of the script
-pub named_contains : {one : Named} {name : List ℕ} (named : List Named) (k : ℕ) → k < length named →
-    one ≡ get_or named k one → name ≡ string_bytes one.name →
-    Contains (names_in named) name
+pub named_contains : {one : Named} {name : List ℕ} (named : List Named) (k : ℕ) → k < length named
+    → one ≡ get_or named k one → name ≡ string_bytes one.name → Contains (names_in named) name
 named_contains {one} {name} named k inside at is =
     subst (λ (y : List ℕ). Contains (names_in named) y) (sym is)
     (k, omega (arith, inside, length-map named bytes_of), get_or-map bytes_of named k one ∙ ap bytes_of (sym at))
@@ -145,9 +144,8 @@ held_as_not_refused {held} {name} kinds.Trace (Trace sizes) refused_source is =
     trace_not_refused held name sizes.items refused_source.fault is refused_source.refused
 
 -- those that were loaded so far aren't refused
-front_accepted : {held : List File} {named : List Named} {sources : List Source} {i : ℕ} → i ≤ length named →
-    length sources ≡ i → AreHeldFront held named sources →
-    All (IsNotRefusedAs held) (take i named)
+front_accepted : {held : List File} {named : List Named} {sources : List Source} {i : ℕ} → i ≤ length named
+    → length sources ≡ i → AreHeldFront held named sources → All (IsNotRefusedAs held) (take i named)
 front_accepted {held} {named} {sources} {i} few long are = λ k d inside fault refused.
     let short : k < i = omega (arith, inside, length-take i named, few) in
     let same : get_or (take i named) k d ≡ get_or named k d = get_or-take i named k d short in
@@ -159,10 +157,9 @@ front_accepted {held} {named} {sources} {i} few long are = λ k d inside fault r
 
 -- a film or trace that is refused after those before it were loaded is the first
 pub first_named_refused : {held : List File} {named : List Named} {sources : List Source} {i : ℕ} {one : Named}
-    {name : List ℕ} {fault : InputError} → i < length named →
-    one ≡ get_or named i one → length sources ≡ i → AreHeldFront held named sources → IsNameOf one name →
-    IsNamedRefused one held name fault →
-    IsFirstNamedRefused named held name fault
+    {name : List ℕ} {fault : InputError} → i < length named → one ≡ get_or named i one → length sources ≡ i
+    → AreHeldFront held named sources → IsNameOf one name → IsNamedRefused one held name fault
+    → IsFirstNamedRefused named held name fault
 first_named_refused {named} {i} {one} {name} inside at long are is refused = record {
   before = take i named;
   one = one;
@@ -200,12 +197,10 @@ record FirstLines : Type 0 where
   count : ℕ
 
 -- a line is taken in, where it and lines after it are read
-line_fails_after : {mid whole : Reading} {o : Option Reading} (r : Reading) (first : FirstLines) →
-    line_read r first.line ≡ o →
-    ((next : Reading) → lines_read next (take first.count first.lines) ≡ Some mid →
-    lines_read next first.lines ≡ Some whole → ⊥) →
-    lines_read r (first.line ∷ take first.count first.lines) ≡ Some mid →
-    lines_read r (first.line ∷ first.lines) ≡ Some whole → ⊥
+line_fails_after : {mid whole : Reading} {o : Option Reading} (r : Reading) (first : FirstLines)
+    → line_read r first.line ≡ o → ((next : Reading) → lines_read next (take first.count first.lines) ≡ Some mid
+    → lines_read next first.lines ≡ Some whole → ⊥) → lines_read r (first.line ∷ take first.count first.lines)
+    ≡ Some mid → lines_read r (first.line ∷ first.lines) ≡ Some whole → ⊥
 line_fails_after {whole} {o = None} r first is fails before all =
     let bad : None ≡ Some whole = sym (ap (option_and_then (λ (next : Reading). lines_read next first.lines)) is)
     ∙ all in
@@ -264,8 +259,7 @@ reading_in script slot = record { lines = script.lines.items; names = names_of s
 
 -- what is read of a script is always the same
 same_reading : (held : List File) (name : List ℕ) (a b : Script) (p : HoldsScript held name a)
-    (q : HoldsScript held name b) →
-    Some (reading_in a p.script_is.slot) ≡ Some (reading_in b q.script_is.slot)
+    (q : HoldsScript held name b) → Some (reading_in a p.script_is.slot) ≡ Some (reading_in b q.script_is.slot)
 same_reading held name a b p q =
     sym p.script_is.read
     ∙ ap (λ (t : List ℕ). lines_read nothing_read (lines_of_script t))

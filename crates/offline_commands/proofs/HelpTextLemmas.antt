@@ -4,8 +4,8 @@ use Rattle.std.specs.List.{list_all}
 use Rattle.cli_args.specs.Subcommands.{keys_of}
 use Rattle.cli_args.specs.ArgumentSyntax.{defaults}
 use Rattle.cli_args.specs.ArgumentText.{name_of}
-use Rattle.cli_args.specs.Invocations.{Invocation, help, version, plan_of, check_of, scan_of, make_of}
-use Rattle.cli_args.specs.Invocations.{day_of, fair_of, serve_of, watch_of}
+use Rattle.cli_args.specs.Invocations.{Invocation, help, version, plan_of, check_of, scan_of, make_of, day_of, fair_of}
+use Rattle.cli_args.specs.Invocations.{serve_of, watch_of}
 use Rattle.cli_args.specs.declared.subcommands.Subcommand.{Subcommand}
 use Rattle.cli_args.specs.declared.subcommands.Subcommand.TheVariants.{Plan, Check, Scan, Make, Day, Fair, Serve, Watch}
 use Rattle.offline_commands.specs.HelpLaws.{fits_into, shows_command, shows_default, shows_key}

@@ -54,9 +54,8 @@ film_limits rate slot sizes within slot_fits =
       slot_units_fit = slot_fits.1;
     }
 
-pub limits_of : (viewer : ClientParams) (pictures : Pictures) → MayHaveCurves pictures → IsValidBuffer viewer.buffer →
-    IsValidDelay viewer.delay →
-    IsWithinLimits pictures.sizes (timing_of viewer pictures)
+pub limits_of : (viewer : ClientParams) (pictures : Pictures) → MayHaveCurves pictures → IsValidBuffer viewer.buffer
+    → IsValidDelay viewer.delay → IsWithinLimits pictures.sizes (timing_of viewer pictures)
 limits_of viewer pictures within buffer delay = record {
   some_picture_units = within.some_picture_units;
   picture_units_fit = within.picture_units_fit;

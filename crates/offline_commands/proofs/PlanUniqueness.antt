@@ -1,6 +1,6 @@
 -- A trace or film that the library holds has one plan, one verdict and one scan, and none where it is refused.
-use Rattle.std.proofs.Common.{◌≡◌, ℕ, ◌≤◌, ◌^◌, List, [], ◌∷◌, ◌++◌, length, take, map, Option}
-use Rattle.std.proofs.Common.{Some, inl, inr, sym, ap, ◌∙◌, subst, arith}
+use Rattle.std.proofs.Common.{◌≡◌, ℕ, ◌≤◌, ◌^◌, List, [], ◌∷◌, ◌++◌, length, take, map, Option, Some, inl, inr, sym, ap}
+use Rattle.std.proofs.Common.{◌∙◌, subst, arith}
 use Rattle.std.proofs.lemmas.Grind.{same_number_lists}
 use Rattle.std.proofs.lemmas.List.{append_assoc, take_at, length-map, map-append, take-map, length-take}
 use Rattle.std.proofs.lemmas.List.Sums.{sum_by-take-le}

@@ -24,8 +24,8 @@ use Rattle.mpeg_scan.specs.declared.units.Unit.{Unit as PictureUnit}
 use Rattle.offline_commands.specs.ScanText.{film_line, kind_text, unit_line, unit_marks, unit_name, unit_places}
 use Rattle.offline_commands.specs.TextLaws.{GivesOnce, IsShortUnit, LineShowsFilm, LineShowsUnit, words_in}
 use Rattle.offline_commands.proofs.ScanTextLemmas.{marks}
-use Rattle.offline_commands.proofs.LineFieldLemmas.{gap, IsWord, is-word, number-word, AreWords, all-words}
-use Rattle.offline_commands.proofs.LineFieldLemmas.{line_rest, IsLineEnd, ended, line-words, line-values}
+use Rattle.offline_commands.proofs.LineFieldLemmas.{gap, IsWord, is-word, number-word, AreWords, all-words, line_rest}
+use Rattle.offline_commands.proofs.LineFieldLemmas.{IsLineEnd, ended, line-words, line-values}
 
 -- a word without `=` gives no key a value
 setting_none : (key word : List ℕ) → HasNo 61 word → setting_value key word ≡ None
@@ -213,10 +213,9 @@ kind-none key B = setting_none key (codes "B") (none_is 61 (codes "B") refl)
 kind-none key D = setting_none key (codes "D") (none_is 61 (codes "D") refl)
 
 -- all words of a unit's line
-unit-line-words : (number : ℕ) (u : PictureUnit) → number < 2 ^ 64 → IsShortUnit u →
-    words_in (unit_line number u)
-    ≡ decimal number ∷ kind_text u.kind ∷ (map setting_text (unit_settings u) ++ mark_words u.has_sequence
-    u.starts_group)
+unit-line-words : (number : ℕ) (u : PictureUnit) → number < 2 ^ 64 → IsShortUnit u
+    → words_in (unit_line number u) ≡ decimal number ∷ kind_text u.kind ∷
+    (map setting_text (unit_settings u) ++ mark_words u.has_sequence u.starts_group)
 unit-line-words number u few short =
     ap words_in (unit-line number u)
     ∙ slice_split_at gap (decimal number) 32 (kind_text u.kind ++ line_rest (unit_marks u) (unit_settings u))
@@ -270,13 +269,12 @@ unit-value {u} number key value few short picked_once =
     ∙ append-nil (values_of key rest) ∙ values_read key (unit_settings u) picked_once.plain ∙ picked_once.given
 
 -- the words of the head stand there or don't: none of the other words is one of them
-shown-at : (word : List ℕ) (number : ℕ) (u : PictureUnit) → bytes_eq word (decimal number) ≡ false →
-    bytes_eq word (kind_text u.kind) ≡ false →
-    list_any (bytes_eq word) (map setting_text (unit_settings u)) ≡ false →
-    list_any (bytes_eq word)
-    (decimal number ∷ kind_text u.kind ∷ (map setting_text (unit_settings u) ++ mark_words u.has_sequence
-    u.starts_group))
-    ≡ list_any (bytes_eq word) (mark_words u.has_sequence u.starts_group)
+shown-at : (word : List ℕ) (number : ℕ) (u : PictureUnit) → bytes_eq word (decimal number) ≡ false
+    → bytes_eq word (kind_text u.kind) ≡ false → list_any (bytes_eq word) (map setting_text (unit_settings u)) ≡ false
+    → list_any (bytes_eq word)
+    (decimal number ∷ kind_text u.kind ∷
+    (map setting_text (unit_settings u) ++ mark_words u.has_sequence u.starts_group)) ≡ list_any (bytes_eq word)
+    (mark_words u.has_sequence u.starts_group)
 shown-at word number u one two three =
     ap (λ (b : Bool). b
     || (bytes_eq word (kind_text u.kind)

@@ -45,9 +45,8 @@ lines-more head units first last order within =
     ∙ sym (unit_lines-append 0 (take first units) (slice_range units first last))
     ∙ ap (unit_lines 0) (sym (take-piece units first last order)))
 
-pub short-more : (units : List PictureUnit) (first last : ℕ) → first ≤ last →
-    All IsShortUnit (take first units) → All IsShortUnit (slice_range units first last) →
-    All IsShortUnit (take last units)
+pub short-more : (units : List PictureUnit) (first last : ℕ) → first ≤ last → All IsShortUnit (take first units)
+    → All IsShortUnit (slice_range units first last) → All IsShortUnit (take last units)
 short-more units first last order before piece =
     subst (λ us. All IsShortUnit us) (sym (take-piece units first last order))
     (All-append IsShortUnit (take first units) (slice_range units first last) before piece)
@@ -68,11 +67,10 @@ written-if {faults} {faults'} {told} {told'} {text} e said =
     subst (λ b. IsTextWritten faults faults' told told' text b) e said
 
 -- the line of the unit before others, and theirs
-pub line-before : {text rest : List ℕ} (first : ℕ) (units : List PictureUnit) (left : ℕ) (unit : PictureUnit) →
-    0 < left → left ≤ length units →
-    text ≡ unit_line (first + (left - 1)) (get_or units (left - 1) unit) ++ rest →
-    rest ≡ unit_lines (first + left) (drop left units) →
-    text ≡ unit_lines (first + (left - 1)) (drop (left - 1) units)
+pub line-before : {text rest : List ℕ} (first : ℕ) (units : List PictureUnit) (left : ℕ) (unit : PictureUnit) → 0 < left
+    → left ≤ length units → text ≡ unit_line (first + (left - 1)) (get_or units (left - 1) unit) ++ rest
+    → rest ≡ unit_lines (first + left) (drop left units) → text ≡ unit_lines (first + (left - 1))
+    (drop (left - 1) units)
 line-before first units left unit some within is after =
     is
     ∙ ap (λ (t : List ℕ). line ++ t) after

@@ -1,7 +1,7 @@
 -- The texts of a scan and of a verdict are read back.
-use Rattle.std.proofs.Common.{◌≡◌, ◌≢◌, ◌∙◌, ℕ, ◌+◌, ◌<◌, ◌^◌, ◌==◌, ◌&&◌, if◌then◌else◌, Bool}
-use Rattle.std.proofs.Common.{true, false, List, [], ◌∷◌, ◌++◌, All, length, map, flat_map, get_or}
-use Rattle.std.proofs.Common.{codes, decimal, refl, sym, ap, arith, Option, Some, None}
+use Rattle.std.proofs.Common.{◌≡◌, ◌≢◌, ◌∙◌, ℕ, ◌+◌, ◌<◌, ◌^◌, ◌==◌, ◌&&◌, if◌then◌else◌, Bool, true, false, List, []}
+use Rattle.std.proofs.Common.{◌∷◌, ◌++◌, All, length, map, flat_map, get_or, codes, decimal, refl, sym, ap, arith}
+use Rattle.std.proofs.Common.{Option, Some, None}
 use Rattle.std.specs.List.{AllZip}
 use Rattle.std.specs.Option.{option_to_list}
 use Rattle.std.specs.Prelude.{IfSome}
@@ -20,8 +20,8 @@ use Rattle.plan_cert.proofs.DecimalLemmas.{not_in_decimal}
 use Rattle.cli_errors.specs.StreamWrites.{number_text}
 use Rattle.vod_base.proofs.SplitLemmas.{none_is}
 use Rattle.cli_errors.proofs.NumberTextLemmas.{AreShort, HasNo, numbers_back, numbers_of, split, split_words}
-use Rattle.offline_commands.specs.ScanText.{film_line, kind_text, word_if, scan_text, unit_line}
-use Rattle.offline_commands.specs.ScanText.{unit_lines, unit_marks, unit_places}
+use Rattle.offline_commands.specs.ScanText.{film_line, kind_text, word_if, scan_text, unit_line, unit_lines, unit_marks}
+use Rattle.offline_commands.specs.ScanText.{unit_places}
 use Rattle.offline_commands.specs.TextLaws.{AreAlike, IsSameScan, IsShortFault, IsShortUnit}
 use Rattle.offline_commands.specs.VerdictText.{refused_line, cert_fault_text, fault_name}
 use Rattle.offline_commands.proofs.NumberFieldLemmas.{field_cut, line_cut, two_cut}
@@ -226,11 +226,10 @@ units_told number (unit ∷ units) (other ∷ others) xs lists e =
   where
     open lists use {long, few, short, also_short as short'}
 
-film_shape : (bytes rate pictures : ℕ) (rest : List ℕ) →
-    film_line bytes rate pictures ++ rest
-    ≡ codes "film bytes="
-    ++ (decimal bytes ++ 32
-    ∷ (codes "rate=" ++ (decimal rate ++ 32 ∷ (codes "pictures=" ++ (decimal pictures ++ 10 ∷ rest)))))
+film_shape : (bytes rate pictures : ℕ) (rest : List ℕ) → film_line bytes rate pictures ++ rest
+    ≡ codes "film bytes=" ++
+    (decimal bytes ++ 32 ∷
+    (codes "rate=" ++ (decimal rate ++ 32 ∷ (codes "pictures=" ++ (decimal pictures ++ 10 ∷ rest)))))
 film_shape bytes rate pictures rest = simp append_assoc
 
 -- what a scan says about a film, in its ranges
@@ -325,10 +324,9 @@ alone_read fault text word back = record {
 }
 
 -- a fault with one
-number_read : (fault : ℕ → CertFault) (n : ℕ) → cert_fault_text (fault n) ≡ fault_name (fault n) ++ number_text n →
-    HasNo 32 (fault_name (fault n)) →
-    fault_of (fault_name (fault n) ∷ decimal n ∷ []) ≡ first_or WrongLength (numbers_of (decimal n ∷ [])) fault →
-    IsFaultRead (fault n) (n ∷ [])
+number_read : (fault : ℕ → CertFault) (n : ℕ) → cert_fault_text (fault n) ≡ fault_name (fault n) ++ number_text n
+    → HasNo 32 (fault_name (fault n)) → fault_of (fault_name (fault n) ∷ decimal n ∷ [])
+    ≡ first_or WrongLength (numbers_of (decimal n ∷ [])) fault → IsFaultRead (fault n) (n ∷ [])
 number_read fault n text word back = record {
   shape = text ∙ ap (λ (l : List ℕ). fault_name (fault n) ++ l) (sym (append-nil (number_text n)));
   word = word;

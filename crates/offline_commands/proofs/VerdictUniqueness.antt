@@ -42,9 +42,8 @@ fault_is : (fault : CertFault) → fault_at (kind_of fault) (unwrap_or (fault_nu
 fault_is (EmptySegment i) = refl
 fault_is _ = refl
 
-same_kind : {from : ℕ} {low up : List ℕ} {segments : List Segment} {f g : CertFault} →
-    IsFirstFault from low up segments f → IsFirstFault from low up segments g →
-    kind_of f ≡ kind_of g
+same_kind : {from : ℕ} {low up : List ℕ} {segments : List Segment} {f g : CertFault}
+    → IsFirstFault from low up segments f → IsFirstFault from low up segments g → kind_of f ≡ kind_of g
 same_kind {from} {low} {f} {g} p q = elim (cases_order (kind_of f) (kind_of g)) [
   | inl h ↦ h
   | inr (inl h) ↦ absurd (q.no_earlier_kind f h p.there)
@@ -79,9 +78,8 @@ verdict_once {text} from low up segments (inr p) (inr q) =
     )
 
 pub checked_once : {held : List File} {viewer : ClientParams} {cert : List ℕ} {status status' : ℕ} {text text' : List ℕ}
-    →
-    IsChecked held viewer cert status text → IsChecked held viewer cert status' text' →
-    (status ≡ status') × (text ≡ text')
+    → IsChecked held viewer cert status text → IsChecked held viewer cert status' text' → (status ≡ status')
+    × (text ≡ text')
 checked_once {held} {viewer} {cert} {status'} {text'} p q =
     let same : AreSame q.curves p.curves = curves_once held viewer q.curves p.curves q.has p.has in
     let one : q.read.written ≡ p.read.written = one_file held cert _ _ q.read.found p.read.found in

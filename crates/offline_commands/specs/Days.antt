@@ -1,6 +1,6 @@
 -- What `day` reads, and why it is refused.
-use Rattle.std.specs.Prelude.{◌≡◌, ◌⊎◌, ℕ, ◌<◌, List, ◌∷◌, ◌++◌, All, length}
-use Rattle.std.specs.Prelude.{map, slice_index_or, Option, Some, string_bytes}
+use Rattle.std.specs.Prelude.{◌≡◌, ◌⊎◌, ℕ, ◌<◌, List, ◌∷◌, ◌++◌, All, length, map, slice_index_or}
+use Rattle.std.specs.Prelude.{Option, Some, string_bytes}
 use Rattle.std.specs.List.{Contains}
 use Rattle.vod_base.specs.IoState.{File, file_named}
 use Rattle.cli_errors.specs.declared.errors.InputError.{InputError}

@@ -1,6 +1,6 @@
 -- What a reader of the texts of a scan, a verdict and `--help` can learn from them.
-use Rattle.std.specs.Prelude.{ℕ, ◌≡◌, ◌<◌, ◌^◌, ◌==◌, ◌||◌, List, [], ◌∷◌, All, IfSome}
-use Rattle.std.specs.Prelude.{codes, decimal, length, slice_index_or}
+use Rattle.std.specs.Prelude.{ℕ, ◌≡◌, ◌<◌, ◌^◌, ◌==◌, ◌||◌, List, [], ◌∷◌, All, IfSome, codes}
+use Rattle.std.specs.Prelude.{decimal, length, slice_index_or}
 use Rattle.std.specs.List.{AllZip, list_any, slice_split}
 use Rattle.std.specs.Str.{bytes_eq}
 use Rattle.mpeg_scan.specs.declared.units.Unit.{Unit as PictureUnit}
@@ -67,8 +67,7 @@ pub record LineShowsFilm (bytes rate pictures : ℕ) (line : List ℕ) : Type 0 
   pub pictures_told : GivesOnce line (codes "pictures") pictures
 
 -- what a scan says: the film's size, its rate code, and its units in order
-pub record IsSameScan (bytes bytes' rate rate' : ℕ) (units units' : List PictureUnit)
-    : Type 0 where
+pub record IsSameScan (bytes bytes' rate rate' : ℕ) (units units' : List PictureUnit) : Type 0 where
   pub bytes_are : bytes ≡ bytes'
   pub rate_is : rate ≡ rate'
   pub units_are : AllZip AreAlike units units'

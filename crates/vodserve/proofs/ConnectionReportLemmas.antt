@@ -1,6 +1,6 @@
 -- Each connection of a server, and what its report says about the journal.
-use Rattle.std.proofs.Common.{◌≡◌, ◌≢◌, ◌∙◌, ◌+◌, ◌<◌, ℕ, List, [], ◌∷◌, ◌++◌, length, Option, Some}
-use Rattle.std.proofs.Common.{None, inl, inr, sym, ap, subst, refl, suc, zero, arith, get_or}
+use Rattle.std.proofs.Common.{◌≡◌, ◌≢◌, ◌∙◌, ◌+◌, ◌<◌, ℕ, List, [], ◌∷◌, ◌++◌, length, Option, Some, None, inl, inr}
+use Rattle.std.proofs.Common.{sym, ap, subst, refl, suc, zero, arith, get_or}
 use Rattle.std.specs.Prelude.{All, IfSome, map, slice_index_or}
 use mathlib.Core.List.{IsPrefix}
 use Rattle.std.proofs.lemmas.List.Elements.{All-append, All-cons, All-head, All-map, All-nil, All-tail}
@@ -23,13 +23,13 @@ use Rattle.conn.specs.declared.reports.PartEnd.TheVariants.{NoMemory as PartNoMe
 use Rattle.conn.specs.declared.reports.PartReport.{PartReport}
 use Rattle.conn.proofs.Journals.{terms_same}
 use Rattle.conn.proofs.Visits.{InsideBack, ServedPart, agrees_longer, one_agrees}
-use Rattle.vodserve.specs.Laws.{IsConnectionCorrect, IsReceiptIn, IsReportIn, IsServedPart}
-use Rattle.vodserve.specs.Laws.{EveryConnectionIsCorrect, ReportsMatchJournal}
+use Rattle.vodserve.specs.Laws.{IsConnectionCorrect, IsReceiptIn, IsReportIn, IsServedPart, EveryConnectionIsCorrect}
+use Rattle.vodserve.specs.Laws.{ReportsMatchJournal}
 use Rattle.vodserve.specs.WorkerResults.{AreLeft, AreWorkerResults, IsWorkerResult, IsOpenedOnce, ServerRun}
 use Rattle.vodserve.specs.WorkerResults.{all_reports, settings_of}
 use Rattle.vodserve.proofs.FilmLoadLemmas.{worker_worked}
-use Rattle.vodserve.proofs.ServeSpecLemmas.{HasRunAll, WorkerRun, back_of, ended_whole, given_back, run_all}
-use Rattle.vodserve.proofs.ServeSpecLemmas.{work_of, workers_of}
+use Rattle.vodserve.proofs.ServeSpecLemmas.{HasRunAll, WorkerRun, back_of, ended_whole, given_back, run_all, work_of}
+use Rattle.vodserve.proofs.ServeSpecLemmas.{workers_of}
 
 all_left : {A : Type 0} (P : A → Type 0) (xs ys : List A) → All P (xs ++ ys) → All P xs
 all_left P [] ys all = All-nil P

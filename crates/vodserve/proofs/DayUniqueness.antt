@@ -1,6 +1,6 @@
 -- A script that a library holds has one day: one text and one journal.
-use Rattle.std.proofs.Common.{◌≡◌, ◌∙◌, ◌-◌, ◌<◌, ℕ, List, [], ◌∷◌, length, take, drop, map, get_or}
-use Rattle.std.proofs.Common.{refl, sym, ap, subst, suc, zero, arith, string_bytes}
+use Rattle.std.proofs.Common.{◌≡◌, ◌∙◌, ◌-◌, ◌<◌, ℕ, List, [], ◌∷◌, length, take, drop, map, get_or, refl, sym, ap}
+use Rattle.std.proofs.Common.{subst, suc, zero, arith, string_bytes}
 use Rattle.std.proofs.Math.ListN.{get_or-map}
 use Rattle.std.proofs.lemmas.List.{length-map}
 use Rattle.vod_base.specs.IoState.{File}
@@ -78,10 +78,9 @@ content_once slot kinds.Trace (Trace a) (Film b) p q = absurd q.held_as
 content_once {held} {name} slot kinds.Trace (Trace a) (Trace b) p q =
     ap (trace_content slot) (trace_once held name a.items b.items p.held_as q.held_as)
 
-contents_same : (slot : ℕ) (xs ys : List Source) → length xs ≡ length ys →
-    ((k : ℕ) (none : Source) → k < length xs →
-    source_content slot (get_or xs k none) ≡ source_content slot (get_or ys k none)) →
-    map (source_content slot) xs ≡ map (source_content slot) ys
+contents_same : (slot : ℕ) (xs ys : List Source) → length xs ≡ length ys
+    → ((k : ℕ) (none : Source) → k < length xs → source_content slot (get_or xs k none)
+    ≡ source_content slot (get_or ys k none)) → map (source_content slot) xs ≡ map (source_content slot) ys
 contents_same slot [] [] long each = refl
 contents_same slot [] (y ∷ ys) long each = absurd (omega (arith, long))
 contents_same slot (x ∷ xs) [] long each = absurd (omega (arith, long))
@@ -91,10 +90,9 @@ contents_same slot (x ∷ xs) (y ∷ ys) long each =
     (contents_same slot xs ys (omega (arith, long)) (λ k none inside. each (suc k) none (omega (arith, inside))))
 
 -- the films and traces of a script are played in one way
-reels_once : {held : List File} {name : List ℕ} {a b : Script} {sources others : List Source} (slot : ℕ) →
-    HoldsScript held name a → HoldsScript held name b → AreHeldAs held a.named.items sources →
-    AreHeldAs held b.named.items others →
-    map (source_content slot) sources ≡ map (source_content slot) others
+reels_once : {held : List File} {name : List ℕ} {a b : Script} {sources others : List Source} (slot : ℕ)
+    → HoldsScript held name a → HoldsScript held name b → AreHeldAs held a.named.items sources
+    → AreHeldAs held b.named.items others → map (source_content slot) sources ≡ map (source_content slot) others
 reels_once {held} {name} {a} {b} {sources} {others} slot p q are others_are =
     let names : names_of a.named.items ≡ names_of b.named.items = names_once held name a b p q in
     let long : length sources ≡ length others =

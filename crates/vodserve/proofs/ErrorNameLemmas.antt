@@ -11,8 +11,8 @@ use Rattle.cli_args.specs.Invocations.{trace_source}
 use Rattle.cli_args.proofs.FilmLemmas.{films_asked}
 use Rattle.cli_errors.specs.ErrorReports.{HasGoodName}
 use Rattle.cli_errors.specs.declared.errors.CliError.{CliError}
-use Rattle.cli_errors.specs.declared.errors.CliError.TheVariants.{Usage, Refused, StoreFault}
-use Rattle.cli_errors.specs.declared.errors.CliError.TheVariants.{SinkFault, NoMemory, GateFault, LinkFault}
+use Rattle.cli_errors.specs.declared.errors.CliError.TheVariants.{Usage, Refused, StoreFault, SinkFault, NoMemory}
+use Rattle.cli_errors.specs.declared.errors.CliError.TheVariants.{GateFault, LinkFault}
 use Rattle.cli_errors.proofs.ReadErrorLemmas.{Causes, IsTroubleOf, good_input}
 use Rattle.offline_commands.specs.OfflineCommands.{IsInputRefused, IsListedOrFailed, IsRead}
 use Rattle.offline_commands.specs.declared.command_output.CommandOutput.{CommandOutput}

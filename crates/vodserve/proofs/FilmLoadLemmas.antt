@@ -1,7 +1,7 @@
 -- The films that words name.
-use Rattle.std.proofs.Common.{◌≡◌, ◌∙◌, ◌+◌, ◌<◌, ◌≤◌, ℕ, true, List, [], ◌∷◌, ◌++◌, length, drop}
-use Rattle.std.proofs.Common.{get_or, Option, Some, None, inl, inr, refl, sym, ap, subst, suc, zero}
-use Rattle.std.proofs.Common.{arith, string_bytes, String, Global, add-one, add-zero, zero-add, length-append}
+use Rattle.std.proofs.Common.{◌≡◌, ◌∙◌, ◌+◌, ◌<◌, ◌≤◌, ℕ, true, List, [], ◌∷◌, ◌++◌, length, drop, get_or, Option, Some}
+use Rattle.std.proofs.Common.{None, inl, inr, refl, sym, ap, subst, suc, zero, arith, string_bytes, String, Global}
+use Rattle.std.proofs.Common.{add-one, add-zero, zero-add, length-append}
 use Rattle.std.specs.Prelude.{All, codes, map, slice_index_or}
 use Rattle.std.specs.List.{Contains}
 use Rattle.std.specs.Option.{option_to_list}
@@ -34,8 +34,8 @@ use Rattle.admission.specs.Makers.{entries_by}
 use Rattle.station.specs.Seats.{StationState, SeatState, IsJournalOf}
 use Rattle.cli_errors.specs.declared.errors.InputError.{InputError}
 use Rattle.cli_errors.specs.declared.errors.CliError.{CliError}
-use Rattle.cli_errors.specs.declared.errors.CliError.TheVariants.{Usage, Refused, StoreFault}
-use Rattle.cli_errors.specs.declared.errors.CliError.TheVariants.{SinkFault, NoMemory, GateFault, LinkFault}
+use Rattle.cli_errors.specs.declared.errors.CliError.TheVariants.{Usage, Refused, StoreFault, SinkFault, NoMemory}
+use Rattle.cli_errors.specs.declared.errors.CliError.TheVariants.{GateFault, LinkFault}
 use Rattle.inputs.specs.LoadErrors.{IsServedFilmRefused}
 use Rattle.vodserve.specs.IoStates.{IoState}
 use Rattle.vodserve.specs.WorkerResults.{AreWorkerResults, AreLeft, AreLoaded, HasOne, IsWorkerResult, IsWorkersResult}
@@ -52,9 +52,8 @@ contains_seam xs ys zs y is = subst (λ (l : List (List ℕ)). Contains l y) (sy
     (length xs, omega (arith, length-append xs (y ∷ ys)), get_or-append_seam xs y ys y)
 
 -- what a word and the words after it give
-pub values_rest : (key : List ℕ) (words : List (String Global)) (i : ℕ) (word : String Global) →
-    i < length words → word ≡ get_or words i word →
-    values_of key (texts (drop i words))
+pub values_rest : (key : List ℕ) (words : List (String Global)) (i : ℕ) (word : String Global) → i < length words
+    → word ≡ get_or words i word → values_of key (texts (drop i words))
     ≡ option_to_list (setting_value key (string_bytes word)) ++ values_of key (texts (drop (i + 1) words))
 values_rest key words i word h at =
     ap (λ (ws : List (String Global)). values_of key (texts ws)) (drop-cons words i word h)
@@ -152,9 +151,8 @@ read_serves serving store store' gate GateFault is = absurd is
 read_serves serving store store' gate LinkFault is = absurd is
 
 -- films that were loaded may be served
-pub loaded_accepted : (serving : ServeArgs) (told : Option (List File)) (films : List Stored) →
-    AreLoaded told serving.films films →
-    (held : List File) → told ≡ Some held → All (MayBeServed held) serving.films
+pub loaded_accepted : (serving : ServeArgs) (told : Option (List File)) (films : List Stored)
+    → AreLoaded told serving.films films → (held : List File) → told ≡ Some held → All (MayBeServed held) serving.films
 loaded_accepted serving told films loaded held is =
     subst (All (MayBeServed held)) loaded.names_are (all_accepted told held films is loaded.held)
 
@@ -171,10 +169,9 @@ abbrev pub Keeps : ServingRun → CliError → Type 0
 Keeps served = IsServeError served.serving served.store served.store_after served.gate served.gate_after
 
 -- and so does an error of making workers
-pub make_serves : (served : ServingRun) (before : ℕ) (t : CliError) → IsMakeWorkersError before served.gate_after.faults
-    t →
-    served.gate.faults ≤ before →
-    HasOnlyOpened served.serving served.store.told served.gate.told served.gate_after.told → Keeps served t
+pub make_serves : (served : ServingRun) (before : ℕ) (t : CliError)
+    → IsMakeWorkersError before served.gate_after.faults t → served.gate.faults ≤ before
+    → HasOnlyOpened served.serving served.store.told served.gate.told served.gate_after.told → Keeps served t
 make_serves served before Usage is low opened = is
 make_serves served before (Refused name fault) is low opened = absurd is
 make_serves served before (StoreFault name) is low opened = absurd is
@@ -217,8 +214,7 @@ closed_journal serving joined closed = record {
 }
 
 -- the workers that were made have finished, and are joined
-pub record DoneWorkers (made : WorkersOf) (work : ServerRun) (workers : List (Worker made.G)) (seat :
-    SeatState)
+pub record DoneWorkers (made : WorkersOf) (work : ServerRun) (workers : List (Worker made.G)) (seat : SeatState)
     (gate gate' : WorkerGate) : Type 0 where
   pub done : HaveFinished made.told made.faults made.hall work 0 workers
   pub joined : AreJoined made.told made.hall (length workers) workers seat gate'.told

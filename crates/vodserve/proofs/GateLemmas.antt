@@ -1,12 +1,12 @@
 -- How a gate and its parts stand as workers are made and joined.
-use Rattle.std.proofs.Common.{◌≡◌, ◌∙◌, ◌+◌, ◌<◌, ◌≤◌, ◌-◌, ◌^◌, ℕ, List, [], ◌∷◌, length, Option}
-use Rattle.std.proofs.Common.{Some, None, inl, inr, sym, ap, subst, refl, arith}
+use Rattle.std.proofs.Common.{◌≡◌, ◌∙◌, ◌+◌, ◌<◌, ◌≤◌, ◌-◌, ◌^◌, ℕ, List, [], ◌∷◌, length, Option, Some, None, inl, inr}
+use Rattle.std.proofs.Common.{sym, ap, subst, refl, arith}
 use Rattle.std.specs.Prelude.{IfSome, All, option_map, slice_index_or}
 use Rattle.std.proofs.lemmas.Bool.{cases_lt}
 use Rattle.std.proofs.lemmas.List.Elements.{All-head, All-tail}
 use Rattle.vod_base.specs.IoState.{HasRisen}
-use Rattle.vod_base.specs.Gates.{Content, Failed, Part, IsOpen, new_part, after_empty_take}
-use Rattle.vod_base.specs.Gates.{after_open, after_rejoin, split_off, told_rejoined}
+use Rattle.vod_base.specs.Gates.{Content, Failed, Part, IsOpen, new_part, after_empty_take, after_open, after_rejoin}
+use Rattle.vod_base.specs.Gates.{split_off, told_rejoined}
 use Rattle.vod_base.specs.declared.gates.Opening.{Opening}
 use Rattle.station.specs.Seats.{StationState, SeatState, new_seat}
 use Rattle.conn.specs.Parts.{IsServed, IsUntouched}
@@ -102,9 +102,8 @@ new_is_fresh {m} {gate} worker new = record {
 }
 
 -- a part that was served keeps its number
-pub served_number : (old new : Option Content) (count number : ℕ) → IsServed old new count →
-    IfSome old (λ content. content.own.number ≡ number) →
-    IfSome new (λ content. content.own.number ≡ number)
+pub served_number : (old new : Option Content) (count number : ℕ) → IsServed old new count
+    → IfSome old (λ content. content.own.number ≡ number) → IfSome new (λ content. content.own.number ≡ number)
 served_number None new count number served is =
     subst (λ (c : Option Content). IfSome c (λ content. content.own.number ≡ number)) (sym served) tt
 served_number (Some old) None count number served is = absurd served

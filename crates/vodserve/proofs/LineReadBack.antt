@@ -1,6 +1,6 @@
 -- The lines that are printed, read back by their keys.
-use Rattle.std.proofs.Common.{◌≡◌, ◌∙◌, ℕ, ◌<◌, ◌^◌, true, List, [], ◌∷◌, ◌++◌, All, None, codes}
-use Rattle.std.proofs.Common.{decimal, length, refl, sym, ap}
+use Rattle.std.proofs.Common.{◌≡◌, ◌∙◌, ℕ, ◌<◌, ◌^◌, true, List, [], ◌∷◌, ◌++◌, All, None, codes, decimal, length, refl}
+use Rattle.std.proofs.Common.{sym, ap}
 use Rattle.std.proofs.lemmas.List.{append-nil, append_assoc}
 use Rattle.cli_args.specs.Settings.{setting_value, values_of}
 use Rattle.cli_args.specs.ArgumentText.{Setting, number_setting, setting_text}
@@ -17,8 +17,8 @@ use Rattle.vodserve.specs.TextLaws.{TellsPlay, TellsServed}
 use Rattle.vodserve.specs.ServerOutput.{served_text}
 use Rattle.vodserve.specs.WatchSpec.{IsShortWatched, watched_text}
 use Rattle.vodserve.proofs.TextReadBack.{last_clean, last_line_of}
-use Rattle.offline_commands.proofs.LineFieldLemmas.{IsWord, is-word, number-word, AreWords, all-words}
-use Rattle.offline_commands.proofs.LineFieldLemmas.{line_rest, ended, unended, line-values}
+use Rattle.offline_commands.proofs.LineFieldLemmas.{IsWord, is-word, number-word, AreWords, all-words, line_rest, ended}
+use Rattle.offline_commands.proofs.LineFieldLemmas.{unended, line-values}
 
 -- ---- the line of `watch`
 settings_of : Watched → List Setting

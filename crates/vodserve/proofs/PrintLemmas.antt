@@ -1,6 +1,6 @@
 -- What was printed of what was done.
-use Rattle.std.proofs.Common.{◌≡◌, ◌∙◌, ◌≤◌, ℕ, ap, List, Option, Some, None, Result, Ok, Err, Vec}
-use Rattle.std.proofs.Common.{Global, inl, inr, refl, sym, subst}
+use Rattle.std.proofs.Common.{◌≡◌, ◌∙◌, ◌≤◌, ℕ, ap, List, Option, Some, None, Result, Ok, Err, Vec, Global, inl, inr}
+use Rattle.std.proofs.Common.{refl, sym, subst}
 use Rattle.std.specs.Prelude.{IfOk, IfErr}
 use Rattle.cli_args.specs.InvocationViews.{invocation_view}
 use Rattle.cli_args.specs.declared.invocations.Invocation.{Invocation as OrderRead}
@@ -8,13 +8,13 @@ use Rattle.cli_args.specs.Invocations.{Invocation, scan_of}
 use Rattle.plan_cert.specs.declared.Segment.{Segment}
 use Rattle.cli_errors.specs.ReadErrors.{IsLibraryUnchanged, IsReadError}
 use Rattle.cli_errors.specs.declared.errors.CliError.{CliError}
-use Rattle.cli_errors.specs.declared.errors.CliError.TheVariants.{Usage, Refused, StoreFault}
-use Rattle.cli_errors.specs.declared.errors.CliError.TheVariants.{SinkFault, NoMemory, GateFault, LinkFault}
+use Rattle.cli_errors.specs.declared.errors.CliError.TheVariants.{Usage, Refused, StoreFault, SinkFault, NoMemory}
+use Rattle.cli_errors.specs.declared.errors.CliError.TheVariants.{GateFault, LinkFault}
 use Rattle.vod_base.specs.IoState.{File}
 use Rattle.offline_commands.specs.OfflineCommands.{IsOutputOf, IsInputRefused, IsRead, IsListedOrFailed}
 use Rattle.offline_commands.proofs.CommandOutputLemmas.{text_of}
-use Rattle.vodserve.specs.Run.{CommandSpec, HasServedNothing, IsPrintedOrFailed, IsCause, IsReadInputError}
-use Rattle.vodserve.specs.Run.{EndResult, IsWritten, PrintResult, PrintSpec, RunSpec}
+use Rattle.vodserve.specs.Run.{CommandSpec, HasServedNothing, IsPrintedOrFailed, IsCause, IsReadInputError, EndResult}
+use Rattle.vodserve.specs.Run.{IsWritten, PrintResult, PrintSpec, RunSpec}
 use Rattle.vodserve.specs.IoStates.{IoState, World, streams_of}
 use Rattle.offline_commands.specs.declared.command_output.CommandOutput.{CommandOutput}
 use Rattle.vodserve.specs.declared.run_results.Ended.{Ended}
@@ -127,11 +127,10 @@ scan_written result gate nothing text is = record { gate = gate; nothing = nothi
 
 -- what the words ask for was done
 pub ran_as : {before after : World} {seed : List ℕ} {asked : Option Invocation} {ended : Ended} {read order : OrderRead}
-    →
-    Some (invocation_view read) ≡ asked → read ≡ order →
-    IsLibraryUnchanged before.store.told after.store.told before.store.faults after.store.faults →
-    before.out.faults ≤ after.out.faults → before.gate.faults ≤ after.gate.faults →
-    CommandSpec before after seed (invocation_view order) ended → RunSpec before after seed asked ended
+    → Some (invocation_view read) ≡ asked → read ≡ order
+    → IsLibraryUnchanged before.store.told after.store.told before.store.faults after.store.faults
+    → before.out.faults ≤ after.out.faults → before.gate.faults ≤ after.gate.faults
+    → CommandSpec before after seed (invocation_view order) ended → RunSpec before after seed asked ended
 ran_as {order = order} is same library output gate does = record {
   library = library;
   output = output;

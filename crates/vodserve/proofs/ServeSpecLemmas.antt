@@ -1,6 +1,6 @@
 -- The laws over a server's run.
-use Rattle.std.proofs.Common.{◌≡◌, ◌≢◌, ◌⊎◌, ◌∙◌, ◌<◌, ℕ, List, length, Option, Some, None, Err}
-use Rattle.std.proofs.Common.{inl, inr, sym, subst, refl, arith}
+use Rattle.std.proofs.Common.{◌≡◌, ◌≢◌, ◌⊎◌, ◌∙◌, ◌<◌, ℕ, List, length, Option, Some, None, Err, inl, inr, sym, subst}
+use Rattle.std.proofs.Common.{refl, arith}
 use Rattle.std.specs.Prelude.{All, IfSome, slice_index_or}
 use Rattle.std.specs.List.{Contains}
 use Rattle.vod_base.specs.IoState.{File, HasRisen}
@@ -15,8 +15,8 @@ use Rattle.inputs.specs.LoadErrors.{IsServedFilmRefused}
 use Rattle.cli_errors.specs.ExitStatuses.{status_of}
 use Rattle.cli_errors.specs.declared.errors.InputError.{InputError}
 use Rattle.cli_errors.specs.declared.errors.CliError.{CliError}
-use Rattle.cli_errors.specs.declared.errors.CliError.TheVariants.{Usage, Refused, StoreFault}
-use Rattle.cli_errors.specs.declared.errors.CliError.TheVariants.{SinkFault, NoMemory, GateFault, LinkFault}
+use Rattle.cli_errors.specs.declared.errors.CliError.TheVariants.{Usage, Refused, StoreFault, SinkFault, NoMemory}
+use Rattle.cli_errors.specs.declared.errors.CliError.TheVariants.{GateFault, LinkFault}
 use Rattle.vodserve.specs.Laws.{EachConnectionIsReturned, HasReturnedAll, HasNoFault, WorkersRan, IsServable}
 use Rattle.vodserve.specs.Laws.{NoConnectionIsLeftOut, RefusedFilmsAreNotServed, AcceptedFilmsAreServed}
 use Rattle.vodserve.specs.Run.{Ends, HasServed, ServeSpec}
@@ -139,9 +139,8 @@ not_memory out out' text GateFault printed status = apart printed.1
     apart e = cc
 not_memory out out' text LinkFault printed status = printed
 
-pub ended_whole : {end : PartEnd} {ended : Ended} (w : WorldChange) (text : List ℕ) →
-    Ends (streams_of w.before w.after) text end ended →
-    ended.status ≢ 6 → end ≢ PartNoMemory
+pub ended_whole : {end : PartEnd} {ended : Ended} (w : WorldChange) (text : List ℕ)
+    → Ends (streams_of w.before w.after) text end ended → ended.status ≢ 6 → end ≢ PartNoMemory
 ended_whole {end} {ended} w text (inl whole) status memory = apart (sym memory ∙ whole.0.1)
   where
     apart : PartNoMemory ≡ AllTaken → ⊥
@@ -223,9 +222,8 @@ run_all {before} {after} {seed} {serving} {ended} {gate} (inr served) told have_
 -- ---- parts that came back
 
 -- a part that was served got back what it gave, as many as there are reports
-pub given_back : (old : Option Content) (new : Content) (told : Option Content) (count : ℕ) →
-    IsServed old told count → told ≡ Some new →
-    (length new.own.back ≡ new.own.given) × (length new.own.back ≡ count)
+pub given_back : (old : Option Content) (new : Content) (told : Option Content) (count : ℕ) → IsServed old told count
+    → told ≡ Some new → (length new.own.back ≡ new.own.given) × (length new.own.back ≡ count)
 given_back None new None count served is = let bad : ⊥ = cc in absurd bad
 given_back None new (Some c) count served is = let bad : ⊥ = cc in absurd bad
 given_back (Some old) new None count served is = absurd served
@@ -288,9 +286,8 @@ workers_of {before} {after} served = record {
 }
 
 -- each worker found memory
-pub each_found : (parts : List PartReport) (end : PartEnd) (reports : List ConnReport) →
-    AreLeft parts end reports → end ≢ PartNoMemory →
-    All (λ (part : PartReport). part.end ≢ PartNoMemory) parts
+pub each_found : (parts : List PartReport) (end : PartEnd) (reports : List ConnReport) → AreLeft parts end reports
+    → end ≢ PartNoMemory → All (λ (part : PartReport). part.end ≢ PartNoMemory) parts
 each_found parts end reports left found = elim left.memory [
   | inl none ↦ absurd (found none)
   | inr each ↦ each
@@ -312,9 +309,8 @@ gives_each_back before after seed serving ended gate serves told have_run =
     }
 
 -- with status 0 each worker's part had no more connections
-all_taken : {end : PartEnd} {ended : Ended} (w : WorldChange) (text : List ℕ) →
-    Ends (streams_of w.before w.after) text end ended → ended.status ≡ 0 →
-    end ≡ AllTaken
+all_taken : {end : PartEnd} {ended : Ended} (w : WorldChange) (text : List ℕ)
+    → Ends (streams_of w.before w.after) text end ended → ended.status ≡ 0 → end ≡ AllTaken
 all_taken {end} {ended} w text (inl whole) status = whole.0.1
 all_taken {end} {ended} w text (inr wrong) status = absurd (not_none wrong.0 (sym wrong.1.1.status ∙ status))
 

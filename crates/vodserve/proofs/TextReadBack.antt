@@ -1,6 +1,6 @@
 -- The text of a server is read back.
-use Rattle.std.proofs.Common.{◌≡◌, ◌≢◌, ◌∙◌, ℕ, ◌<◌, ◌^◌, List, ◌∷◌, ◌++◌, All, length, flat_map}
-use Rattle.std.proofs.Common.{codes, decimal, refl, sym, arith}
+use Rattle.std.proofs.Common.{◌≡◌, ◌≢◌, ◌∙◌, ℕ, ◌<◌, ◌^◌, List, ◌∷◌, ◌++◌, All, length, flat_map, codes, decimal, refl}
+use Rattle.std.proofs.Common.{sym, arith}
 use Rattle.std.proofs.lemmas.Fmt.{decimal_injective}
 use Rattle.std.proofs.lemmas.List.{append_assoc, append_cancel_left, append_cancel_right}
 use Rattle.std.proofs.lemmas.List.Elements.{All-append}
@@ -34,9 +34,8 @@ last_line_of entries connections =
       shape = simp append_assoc;
     }
 
-pub last_clean : (connections entries : ℕ) → connections < 2 ^ 64 → entries < 2 ^ 64 →
-    All (λ b. b ≢ 10) (codes "served connections="
-    ++ (decimal connections ++ 32 ∷ (codes "entries=" ++ decimal entries)))
+pub last_clean : (connections entries : ℕ) → connections < 2 ^ 64 → entries < 2 ^ 64 → All (λ b. b ≢ 10)
+    (codes "served connections=" ++ (decimal connections ++ 32 ∷ (codes "entries=" ++ decimal entries)))
 last_clean connections entries small small' =
     let digits : (n : ℕ) → n < 2 ^ 64 → HasNo 10 (decimal n) =
     λ (n : ℕ) few. not_in_decimal 10 n few (λ within. omega (arith, within.0)) in

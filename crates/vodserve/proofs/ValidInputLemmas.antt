@@ -8,8 +8,8 @@ use Rattle.cli_errors.specs.ReadErrors.{IsReadError}
 use Rattle.cli_errors.specs.ExitStatuses.{status_of}
 use Rattle.cli_errors.specs.declared.errors.InputError.{InputError}
 use Rattle.cli_errors.specs.declared.errors.CliError.{CliError}
-use Rattle.cli_errors.specs.declared.errors.CliError.TheVariants.{Usage, Refused, StoreFault}
-use Rattle.cli_errors.specs.declared.errors.CliError.TheVariants.{SinkFault, NoMemory, GateFault, LinkFault}
+use Rattle.cli_errors.specs.declared.errors.CliError.TheVariants.{Usage, Refused, StoreFault, SinkFault, NoMemory}
+use Rattle.cli_errors.specs.declared.errors.CliError.TheVariants.{GateFault, LinkFault}
 use Rattle.offline_commands.specs.OfflineCommands.{IsOutputOf, IsInputRefused, IsRead}
 use Rattle.offline_commands.specs.Days.{IsDayInput, IsDayRefused}
 use Rattle.vodserve.specs.Laws.{ValidInputSucceeds, HasSucceeded, HasNoFault, IsAccepted, IsServable, IsResultOf}
@@ -28,8 +28,7 @@ RefusesNone order told = (trouble_name : List ℕ) (fault : InputError) → IsRe
 -- what keeps a command from its work, where nothing is refused and nothing failed, is that memory
 -- ran out
 caused_by_memory : {w : WorldChange} (order : Invocation) (error : CliError) → RefusesNone order w.before.store.told
-    →
-    HasNoFault w.before w.after → IsCause w.before w.after order error → status_of error ≡ 6
+    → HasNoFault w.before w.after → IsCause w.before w.after order error → status_of error ≡ 6
 caused_by_memory order Usage may none is = absurd is
 caused_by_memory order (Refused name fault) may none is = absurd (may name.now fault is.0.0 is.0.1)
 caused_by_memory order (StoreFault name) may none is = absurd (none.store is.0.1)
@@ -43,10 +42,9 @@ abbrev IsItsWork : Invocation → Type 0
 IsItsWork order = (told : Option (List File)) (ended : Ended) (text : List ℕ) →
     IsOutputOf told order ended.status text ended.plan → IsResultOf told order ended text
 
-printed_whole : {before after : World} {order : Invocation} {ended : Ended} → IsItsWork order →
-    RefusesNone order before.store.told →
-    HasNoFault before after → PrintSpec before after order ended → HasSucceeded before after order ended ⊎ (ended.status
-    ≡ 6)
+printed_whole : {before after : World} {order : Invocation} {ended : Ended} → IsItsWork order
+    → RefusesNone order before.store.told → HasNoFault before after → PrintSpec before after order ended
+    → HasSucceeded before after order ended ⊎ (ended.status ≡ 6)
 printed_whole {before} {after} {order} {ended} its may none prints = elim prints.out [
   | inl whole ↦ inl (record {
     text = whole.text;
@@ -70,12 +68,9 @@ text_whole : {ended : Ended} (before after : World) (text : List ℕ) → HasNoF
 text_whole before after text none (inl whole) = (whole.0, whole.2, whole.3)
 text_whole before after text none (inr cut) = absurd (none.out cut.0)
 
-day_by_memory : {w : WorldChange} {run : ScriptRun} (error : CliError) →
-    IsAccepted (day_of run) w.before.store.told →
-    HasNoFault w.before w.after →
-    IsReadError (IsDayInput w.before.store.told run.script)
-    (IsDayRefused run.script) w.before.store.told w.before.store.faults
-    w.after.store.faults error → status_of error ≡ 6
+day_by_memory : {w : WorldChange} {run : ScriptRun} (error : CliError) → IsAccepted (day_of run) w.before.store.told
+    → HasNoFault w.before w.after → IsReadError (IsDayInput w.before.store.told run.script)
+    (IsDayRefused run.script) w.before.store.told w.before.store.faults w.after.store.faults error → status_of error ≡ 6
 day_by_memory Usage may none is = absurd is
 day_by_memory (Refused name fault) may none is = absurd (may.accepted name.now fault (is.1 may.held may.told_is))
 day_by_memory (StoreFault name) may none is = absurd (none.store is.1)
@@ -97,9 +92,8 @@ day_whole {w} {run} {ended} may none (inr ran) =
       quiet = whole.2;
     })
 
-fair_whole : {before after : World} {run : FairRun} {ended : Ended} → HasNoFault before after →
-    FairSpec (streams_of before after) run ended →
-    HasSucceeded before after (fair_of run) ended ⊎ (ended.status ≡ 6)
+fair_whole : {before after : World} {run : FairRun} {ended : Ended} → HasNoFault before after
+    → FairSpec (streams_of before after) run ended → HasSucceeded before after (fair_of run) ended ⊎ (ended.status ≡ 6)
 fair_whole none (inl kept) = inr (kept.1.3.status ∙ subst (λ (t : CliError). status_of t ≡ 6) (sym kept.1.0) refl)
 fair_whole {before} {after} none (inr ran) =
     let whole = text_whole before after ran.ran.text none ran.ran.written in

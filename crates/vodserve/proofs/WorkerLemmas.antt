@@ -55,9 +55,8 @@ workers_push {m} {worker} from (first ∷ workers) all placed = (
 
 -- the worker that is taken after others
 pub taken_worker : {m : WorkersOf} {worker : Worker m.G} (workers done : List (Worker m.G))
-    → AreWorkers m.told m.faults m.hall 0 workers
-    → (length done < length workers) × (worker ≡ slice_index_or workers (length done) worker)
-    → IsPlaced m (length done) worker
+    → AreWorkers m.told m.faults m.hall 0 workers → (length done < length workers)
+    × (worker ≡ slice_index_or workers (length done) worker) → IsPlaced m (length done) worker
 taken_worker {m} {worker} workers done all turn =
     let here = by-place 0 workers all (length done) turn.0 turn.1 in
     record { number = here.0 ∙ zero-add (length done); is = here.1 }
@@ -139,9 +138,8 @@ out_less from count part content number are = record {
       ∙ are.out k (omega (arith, low)) high;
 }
 
-pub told_less : (from count : ℕ) (part gate : Option Content) →
-    IfSome part (λ content. content.own.number ≡ from) → IfSome gate (ArePartsOut from count) →
-    IfSome (told_rejoined part gate) (ArePartsOut (from + 1) count)
+pub told_less : (from count : ℕ) (part gate : Option Content) → IfSome part (λ content. content.own.number ≡ from)
+    → IfSome gate (ArePartsOut from count) → IfSome (told_rejoined part gate) (ArePartsOut (from + 1) count)
 told_less from count None None number are = tt
 told_less from count None (Some c) number are = tt
 told_less from count (Some p) None number are = tt
@@ -205,8 +203,7 @@ kept_back {part} p from (worker ∷ workers) all later_part = (
     open later_part use {place as n, number, before}
 
 back_push : (p : PartsTold) (from : ℕ) (workers : List (Worker p.G)) (worker : Worker p.G)
-    → ArePartsBack p.told p.gate from workers
-    → IfSome p.gate (IsPartBack (from + length workers) (p.told worker.part))
+    → ArePartsBack p.told p.gate from workers → IfSome p.gate (IsPartBack (from + length workers) (p.told worker.part))
     → ArePartsBack p.told p.gate from (workers ++ worker ∷ [])
 back_push p from [] worker all last =
     (subst (λ (k : ℕ). IfSome p.gate (IsPartBack k (p.told worker.part))) (add-zero from) last, tt)
@@ -376,12 +373,11 @@ record WorkerJournal {G : Type 0} (worker : Worker G) (journal : List Entry) : T
 
 -- a worker that served, as the closed journal and the gate record it
 one_worked : {G : Type 0} {told : G → Option Content} {faults : G → ℕ} {work : ServerRun} {gate gate' : WorkerGate}
-    {hall : StationState} {worker : Worker G} →
-    WorkerJournal worker work.journal → IsStationOf work.serving hall → IsWorker told faults hall worker →
-    HasFinished told faults work.films (settings_of work.serving) work.seed worker →
-    IfSome gate'.told (IsPartBack worker.number (told worker.part)) →
-    (0 < faults worker.part → HasRisen gate.faults gate'.faults) →
-    IsWorkerResult work gate gate' worker.number worker.report
+    {hall : StationState} {worker : Worker G} → WorkerJournal worker work.journal → IsStationOf work.serving hall
+    → IsWorker told faults hall worker → HasFinished told faults work.films (settings_of work.serving) work.seed worker
+    → IfSome gate'.told (IsPartBack worker.number (told worker.part))
+    → (0 < faults worker.part → HasRisen gate.faults gate'.faults)
+    → IsWorkerResult work gate gate' worker.number worker.report
 one_worked {told} {faults} {work} {worker} own of_words is finished back counted = record {
   seat = finished.seat;
   left = worker.seat;

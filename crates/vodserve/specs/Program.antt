@@ -62,8 +62,7 @@ pub record HasNoSeed (before after : Machine) (ended : Ended) : Type 0 where
 pub record ProgramSpec (before after : Machine) (asked : Option Invocation) (ended : Ended)
     : Type 0 where
   pub watch : is_watch asked ≡ true → (after.listening ≡ before.listening)
-      × ((seed : List ℕ)
-      × RunSpec (dialing_world before) (dialing_world after) seed asked ended)
+      × ((seed : List ℕ) × RunSpec (dialing_world before) (dialing_world after) seed asked ended)
   pub other : is_watch asked ≡ false → is_serve asked ≡ false → (seed : List ℕ)
       × RunSpec (listening_world before) (listening_world after) seed asked ended
   pub serve : is_serve asked ≡ true → HasSeed before after asked ended

@@ -21,6 +21,7 @@ use Rattle.rtsp_client.specs.declared.watch_request.Watched.{Watched}
 use Rattle.rtsp_client.specs.declared.watch_request.WatchEnd.{WatchEnd}
 use Rattle.rtsp_client.specs.declared.watch_request.WatchEnd.TheVariants.{Done as WatchDone}
 use Rattle.rtsp_client.specs.declared.watch_request.WatchEnd.TheVariants.{Fault as WatchFailed}
+use Rattle.rtsp_client.specs.declared.watch_request.WatchEnd.TheVariants.{NoMemory as WatchNoMemory}
 use Rattle.rtsp_client.specs.declared.watch_request.WatchEnd.TheVariants.{
   LinkFault as
       WatchLinkFault,
@@ -29,7 +30,6 @@ use Rattle.rtsp_client.specs.declared.watch_request.WatchEnd.TheVariants.{
   SinkFault as
       WatchSinkFault,
 }
-use Rattle.rtsp_client.specs.declared.watch_request.WatchEnd.TheVariants.{NoMemory as WatchNoMemory}
 use Rattle.rtsp_client.specs.declared.watch_request.WatchFault.{WatchFault}
 use Rattle.cli_args.specs.Invocations.{ScriptRun, ServeArgs, WatchArgs, Invocation, help, version}
 use Rattle.cli_args.specs.Invocations.{plan_of, check_of, scan_of, make_of, day_of, fair_of}
@@ -322,9 +322,8 @@ CommandSpec before after seed (watch_of watching) ended =
 CommandSpec before after seed (serve_of serving) ended = ServeSpec before after seed serving ended
 
 -- the library is as it was, and what the arguments ask for was done, if they mean something
-pub record RunSpec (before after : World) (seed : List ℕ) (asked : Option Invocation) (ended :
-    Ended)
-    : Type 0 where
+pub record RunSpec (before after : World) (seed : List ℕ) (asked : Option Invocation)
+    (ended : Ended) : Type 0 where
   pub library : IsLibraryUnchanged before.store.told after.store.told before.store.faults
       after.store.faults
   pub output : before.out.faults ≤ after.out.faults

@@ -59,9 +59,8 @@ pub record HasOnlyOpened (serving : ServeArgs) (store : Option (List File))
   pub few : IfSome gate' (HasTooFewParts serving.listening.workers)
 
 -- the first film of these names that is refused: each before it may be served
-pub record IsFirstRefused (names : List (List ℕ)) (held : List File) (name : List ℕ) (fault :
-    InputError)
-    : Type 0 where
+pub record IsFirstRefused (names : List (List ℕ)) (held : List File) (name : List ℕ)
+    (fault : InputError) : Type 0 where
   pub before : List (List ℕ)
   pub rest : List (List ℕ)
   pub names_are : names ≡ before ++ name ∷ rest

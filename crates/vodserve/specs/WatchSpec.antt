@@ -105,8 +105,7 @@ pub record HasHeardPart (wish : Wish) (part part' : Option Content) (out out' : 
 
 -- what a part came to: no connection, and then nothing was written; or a film that was watched
 abbrev pub HearsPart : Wish → Option Content → Option Content → IoState (List ℕ) → IoState (List ℕ)
-    →
-    Option WatchEnd → Type 0
+    → Option WatchEnd → Type 0
 HearsPart wish part part' out out' None =
     (part' ≡ option_map (after_empty_take NoMore) part) × (out' ≡ out)
 HearsPart wish part part' out out' (Some end) = HasHeardPart wish part part' out out' end

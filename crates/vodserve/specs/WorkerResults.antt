@@ -114,9 +114,8 @@ duty_of work worker = worker_input work.films (settings_of work.serving) work.se
 -- of the number after its own, under the capacity and the most entries that the arguments say. The
 -- journal's entries of that seat are those that the worker made, and all that it saw of the journal
 -- is a prefix of it. The part is back in the gate, and a fault of it was counted there.
-pub record IsWorkerResult (work : ServerRun) (gate gate' : WorkerGate) (worker : ℕ) (report :
-    PartReport)
-    : Type 0 where
+pub record IsWorkerResult (work : ServerRun) (gate gate' : WorkerGate) (worker : ℕ)
+    (report : PartReport) : Type 0 where
   pub seat : SeatState
   pub left : SeatState
   pub part : Option Content

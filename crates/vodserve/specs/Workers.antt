@@ -69,8 +69,7 @@ pub record ArePartsOut (from count : ℕ) (content : Content) : Type 0 where
 
 -- the parts of workers, whose numbers go on from one, are back in the gate
 abbrev pub ArePartsBack : {G : Type 0} → (G → Option Content) → Option Content → ℕ → List (Worker G)
-    →
-    Type 0
+    → Type 0
 ArePartsBack told gate from [] = ⊤
 ArePartsBack told gate from (worker ∷ workers) = IfSome gate (IsPartBack from (told worker.part))
     × ArePartsBack told gate (from + 1) workers

@@ -8,9 +8,8 @@ abbrev pub invariant-loop-first : goal.invariant-loop-first
 invariant-loop-first g l = record {
   long : length l.piece ≡ 65520;
   within : l.first ≤ length l.units;
-  written : IsTextWritten (g.O.Sink.faults l.fn.out) (g.O.Sink.faults l.out)
-      (g.O.Sink.written l.fn.out) (g.O.Sink.written l.out)
-      (l.film ++ unit_lines 0 (take l.first l.units)) l.is_written;
+  written : IsTextWritten (g.O.Sink.faults l.fn.out) (g.O.Sink.faults l.out) (g.O.Sink.written l.fn.out)
+      (g.O.Sink.written l.out) (l.film ++ unit_lines 0 (take l.first l.units)) l.is_written;
   short : All IsShortUnit (take l.first l.units);
 }
 

@@ -6,8 +6,8 @@ use Rattle.vodserve.specs.Workers.{AreWorkers, IsFresh}
 use Rattle.vodserve.specs.declared.workers.Worker.{Worker}
 use Rattle.std.proofs.lemmas.List.Elements.{All-push}
 use Rattle.vodserve.proofs.WorkerLemmas.{workers_push}
-use Rattle.vodserve.proofs.GateLemmas.{IsNew, new_is_fresh, new_is_worker, not_opened_split, told_out_more}
-use Rattle.vodserve.proofs.GateLemmas.{split_open, split_still_open}
+use Rattle.vodserve.proofs.GateLemmas.{IsNew, new_is_fresh, new_is_worker, not_opened_split, told_out_more, split_open}
+use Rattle.vodserve.proofs.GateLemmas.{split_still_open}
 use Rattle.vodserve.proofs.workers.make_workers.Goals as goal
 
 pub loop-number-preserved : goal.loop-number-preserved
