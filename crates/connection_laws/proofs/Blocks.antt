@@ -1,6 +1,5 @@
 -- The blocks of a run, unit by unit: a report before a unit that starts a group, and its frames.
-use Rattle.std.proofs.Common.{◌≡◌, ℕ, ◌+◌, ◌*◌, ◌<◌, Bool, true, false, nat_le, cond, List, [], ◌∷◌, ◌++◌, map, refl}
-use Rattle.std.proofs.Common.{ap, ◌∙◌, arith, inl, inr}
+use Rattle.std.proofs.Common.{◌≡◌, ℕ, ◌+◌, ◌*◌, Bool, nat_le, cond, List, [], ◌∷◌, ◌++◌, map, refl, ap, arith}
 use Rattle.connection_laws.proofs.Terms.{picture_time, Packet, unit_packets, frames_among, unit_pieces, FramedRun}
 use Rattle.connection_laws.proofs.Terms.{blocks_from, payload, block_events, element_events, Frame, Report, is_last}
 use Rattle.mpeg_scan.specs.declared.units.Unit.{Unit as PictureUnit}
@@ -8,7 +7,7 @@ use Rattle.rtp_pack.specs.Heads.{bit, head_bytes, packet_head}
 use Rattle.rtp_pack.specs.Reports.{report_bytes, unit_report}
 use Rattle.film_frames.specs.Pieces.{count_of, octets_of, unit_of}
 use Rattle.film_frames.specs.FramedRuns.{interleaved_block, piece_bytes}
-use Rattle.connection_laws.proofs.HistorySums.{IsOneBlock, AreOneBlocks}
+use Rattle.connection_laws.proofs.HistorySums.{AreOneBlocks}
 use Rattle.connection_laws.proofs.Lists.{each_append}
 
 -- the pieces of a run: what their units are taken of
@@ -55,87 +54,75 @@ abbrev pub unit_blocks : FramedRun → List ℕ → PictureUnit → ℕ → ℕ 
 unit_blocks run starts unit f o = report_if unit.starts_group run unit f o ++ frame_blocks run unit f
     (unit_packets starts unit)
 
--- frames are made of packets
-record Maker (run : FramedRun) (unit : PictureUnit) : Type 0 where
-  make : Packet → Part
-  bytes : (p : Packet) (f o : ℕ) → piece_bytes run f o (make p) ≡ frame_block run unit p f
-  count : (p : Packet) → count_of (make p) ≡ 1
-  among : (p : Packet) (ps : List Part) (b : List ℕ) (bs : List (List ℕ))
-      → frames_among (make p ∷ ps) (b ∷ bs) ≡ b ∷ frames_among ps bs
-
-frames_made : {run : FramedRun} {unit : PictureUnit} (is : Maker run unit) (f o : ℕ) (packets : List Packet)
-    → blocks_from run f o (map is.make packets) ≡ frame_blocks run unit f packets
-frames_made is f o [] = refl
-frames_made {run} {unit} is f o (p ∷ packets) =
-    let make = is.make in cc (is.bytes p f o, is.count p, frames_made is (f + 1) (o + octets_of (make p)) packets)
-
-plain : (f : ℕ) → f + 0 ≡ f
-plain f = omega arith
-
--- a part of a film's pieces that is the report before a unit's frames, and no packet
-record ReportPart (run : FramedRun) (unit : PictureUnit) (f o : ℕ) : Type 0 where
-  report : Part
-  bytes : piece_bytes run f o report ≡ report_block run unit f o
-  count : count_of report ≡ 0
-
-with_report : {run : FramedRun} {unit : PictureUnit} {f o : ℕ} (starts : Bool) (part : ReportPart run unit f o)
-    (packets : List Packet) (is : Maker run unit)
-    → blocks_from run f o (cond starts (part.report ∷ []) [] ++ map is.make packets)
-    ≡ report_if starts run unit f o ++ frame_blocks run unit f packets
-with_report {f = f} {o = o} false part packets is = frames_made is f o packets
-with_report {run} {unit} {f} {o} true part packets is =
-    cc (bytes, count, plain f, frames_made is f (o + octets_of report) packets)
-  where
-    open part use {report, bytes, count}
-
-pub unit_made : (run : FramedRun) (f o : ℕ) (starts : List ℕ) (unit : PictureUnit)
-    → blocks_from run f o (unit_pieces starts unit) ≡ unit_blocks run starts unit f o
-unit_made run f o starts unit =
-    with_report {run = run} {unit = unit} unit.starts_group
-    (record { report = _; bytes = refl; count = refl })
-    (unit_packets starts unit)
-    (record { make = _; bytes = λ p g n. refl; count = λ p. refl; among = λ p ps b bs. refl })
-
--- ---- the frames among them
-
--- a part that is a report: it is no frame among the pieces
-record UncountedReport : Type 0 where
-  report : Part
-  none : ((qs : List Part) (b : List ℕ) (cs : List (List ℕ)) → frames_among (report ∷ qs) (b ∷ cs) ≡ frames_among qs cs)
-
--- packets, with the frames and octets that a run sent before them
-record PacketsFrom : Type 0 where
-  frames : ℕ
-  octets : ℕ
-  packets : List Packet
-
 -- the parts and blocks after those of a unit
 pub record AfterUnit : Type 0 where
   pub parts : List Part
   pub blocks : List (List ℕ)
 
-frames_among_made : {run : FramedRun} {unit : PictureUnit} (is : Maker run unit) (f : ℕ) (packets : List Packet)
-    (rest : AfterUnit) → frames_among (map is.make packets ++ rest.parts)
-    (frame_blocks run unit f packets ++ rest.blocks)
-    ≡ frame_blocks run unit f packets ++ frames_among rest.parts rest.blocks
-frames_among_made is f [] rest = refl
-frames_among_made {run} {unit} is f (p ∷ packets) rest = grind (arith, frames_among_made is (f + 1) packets rest)
+-- a unit's report and frames, as parts of a film's pieces
+record UnitParts (run : FramedRun) (unit : PictureUnit) : Type 0 where
+  report : Part
+  frame : Packet → Part
+  told : (f o : ℕ) → piece_bytes run f o report ≡ report_block run unit f o
+  uncounted : count_of report ≡ 0
+  none : (ps : List Part) (b : List ℕ) (bs : List (List ℕ)) → frames_among (report ∷ ps) (b ∷ bs) ≡ frames_among ps bs
+  bytes : (p : Packet) (f o : ℕ) → piece_bytes run f o (frame p) ≡ frame_block run unit p f
+  count : (p : Packet) → count_of (frame p) ≡ 1
+  among : (p : Packet) (ps : List Part) (b : List ℕ) (bs : List (List ℕ))
+      → frames_among (frame p ∷ ps) (b ∷ bs) ≡ b ∷ frames_among ps bs
 
-among_report : {run : FramedRun} {unit : PictureUnit} (is : Maker run unit) (starts : Bool)
-    (uncounted : UncountedReport) (from : PacketsFrom) (rest : AfterUnit)
-    → frames_among ((cond starts (uncounted.report ∷ []) [] ++ map is.make from.packets) ++ rest.parts)
-    ((report_if starts run unit from.frames from.octets ++ frame_blocks run unit from.frames from.packets)
-    ++ rest.blocks) ≡ frame_blocks run unit from.frames from.packets ++ frames_among rest.parts rest.blocks
-among_report is starts uncounted from rest = grind (arith, frames_among_made)
+module _ {run : FramedRun} {unit : PictureUnit} (is : UnitParts run unit) where
+  frames_made : (f o : ℕ) (packets : List Packet)
+      → blocks_from run f o (map is.frame packets) ≡ frame_blocks run unit f packets
+  frames_made f o [] = refl
+  frames_made f o (p ∷ packets) = search (arith, frames_made (f + 1) (o + octets_of (is.frame p)) packets)
+
+  frames_told : (f : ℕ) (packets : List Packet) (rest : AfterUnit)
+      → frames_among (map is.frame packets ++ rest.parts) (frame_blocks run unit f packets ++ rest.blocks)
+      ≡ frame_blocks run unit f packets ++ frames_among rest.parts rest.blocks
+  frames_told f [] rest = refl
+  frames_told f (p ∷ packets) rest = grind (arith, frames_told (f + 1) packets rest)
+
+  parts_made : (starts : Bool) (f o : ℕ) (packets : List Packet)
+      → blocks_from run f o (cond starts (is.report ∷ []) [] ++ map is.frame packets)
+      ≡ report_if starts run unit f o ++ frame_blocks run unit f packets
+  parts_made starts f o packets = grind (arith, frames_made)
+
+  parts_told : (starts : Bool) (f o : ℕ) (packets : List Packet) (rest : AfterUnit)
+      → frames_among ((cond starts (is.report ∷ []) [] ++ map is.frame packets) ++ rest.parts)
+      ((report_if starts run unit f o ++ frame_blocks run unit f packets) ++ rest.blocks)
+      ≡ frame_blocks run unit f packets ++ frames_among rest.parts rest.blocks
+  parts_told starts f o packets rest = grind (arith, frames_told)
+
+-- its blocks, and the frames among them
+pub unit_made : (run : FramedRun) (f o : ℕ) (starts : List ℕ) (unit : PictureUnit)
+    → blocks_from run f o (unit_pieces starts unit) ≡ unit_blocks run starts unit f o
+unit_made run f o starts unit =
+    parts_made {run = run} {unit = unit} (record {
+      report = _;
+      frame = _;
+      told = λ g n. refl;
+      uncounted = refl;
+      none = λ ps b bs. refl;
+      bytes = λ p g n. refl;
+      count = λ p. refl;
+      among = λ p ps b bs. refl;
+    }) unit.starts_group f o (unit_packets starts unit)
 
 pub unit_among : (run : FramedRun) (f o : ℕ) (starts : List ℕ) (unit : PictureUnit) (rest : AfterUnit) →
     frames_among (unit_pieces starts unit ++ rest.parts) (unit_blocks run starts unit f o ++ rest.blocks)
     ≡ frame_blocks run unit f (unit_packets starts unit) ++ frames_among rest.parts rest.blocks
 unit_among run f o starts unit rest =
-    among_report {run = run} {unit = unit}
-    (record { make = _; bytes = λ p g n. refl; count = λ p. refl; among = λ p qs b cs. refl }) unit.starts_group
-    (record { report = _; none = λ qs b cs. refl })
-    (record { frames = f; octets = o; packets = unit_packets starts unit }) rest
+    parts_told {run = run} {unit = unit} (record {
+      report = _;
+      frame = _;
+      told = λ g n. refl;
+      uncounted = refl;
+      none = λ ps b bs. refl;
+      bytes = λ p g n. refl;
+      count = λ p. refl;
+      among = λ p ps b bs. refl;
+    }) unit.starts_group f o (unit_packets starts unit) rest
 
 -- ---- what a client reads of them
 

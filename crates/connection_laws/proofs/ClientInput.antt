@@ -1,26 +1,41 @@
-use Rattle.std.proofs.lemmas.Grind.{common_steps}
 -- What a client has received, event by event: the first elements of the bytes that came.
-use Rattle.std.proofs.Common.{◌≡◌, ℕ, ◌+◌, ◌<◌, ◌≤◌, ◌==◌, ◌||◌, Bool, true, false, nat_lt, List, [], ◌∷◌, ◌++◌, take}
-use Rattle.std.proofs.Common.{refl, sym, ap, ap₂, subst, ◌∙◌, append_assoc, arith, inl, inr}
-use Rattle.std.proofs.lemmas.Bool.{cond-false, ne_eqb}
+use Rattle.std.proofs.lemmas.Grind.{common_steps}
+use Rattle.std.proofs.Common.{◌≡◌, ℕ, ◌+◌, ◌<◌, ◌≤◌, true, List, [], ◌∷◌, ◌++◌, take, refl, sym, ap, ◌∙◌, append_assoc}
+use Rattle.std.proofs.Common.{arith, inl, inr}
 use Rattle.std.proofs.lemmas.List.{append-nil}
-use Rattle.connection_laws.proofs.Terms.{IoEvent, HeardBytes, HeardSlot, AreInputElements, IsElementLength, Wish}
-use Rattle.connection_laws.proofs.Terms.{Watched, GoOn, Gives, history_after, cut_bytes, events_of_elements}
-use Rattle.connection_laws.proofs.Terms.{element_events, payloads_of, Brings, IsNext, RunsAll, WatchStage, is_complete}
-use Rattle.connection_laws.proofs.Terms.{frames_heard, frames_of, first_slot, watched_in, History, ClientEvent, Frame}
-use Rattle.connection_laws.proofs.Terms.{Reply, Report, Slot, replies, bytes_in}
-use Rattle.interleave.proofs.StreamElements.{CutsInTurn, cuts_join}
+use Rattle.connection_laws.proofs.Terms.{IoEvent, AreInputElements, IsElementLength, Wish, Watched, GoOn, Gives}
+use Rattle.connection_laws.proofs.Terms.{history_after, events_of_elements, element_events, payloads_of, Brings, IsNext}
+use Rattle.connection_laws.proofs.Terms.{RunsAll, WatchStage, is_complete, frames_heard, frames_of, first_slot}
+use Rattle.connection_laws.proofs.Terms.{watched_in, History, ClientEvent, Frame, Reply, Report, Slot, replies}
+use Rattle.connection_laws.proofs.Terms.{bytes_in, GoesOn}
+use Rattle.interleave.proofs.StreamElements.{cuts_join}
 use Rattle.rtsp_client.specs.declared.watch_request.WatchEnd.TheVariants.{Done}
 use Rattle.rtsp_client.specs.WatchCourses.{Round, Runs, stage}
-use Rattle.rtsp_client.specs.ClientHistory.{slot_before, start}
-use Rattle.connection_laws.proofs.FirstFrames.{HasGoneOn, gone_on}
 use Rattle.connection_laws.proofs.HistorySums.{Sum, replies_grow, steps, steps_on, sum_after, sum_of}
-use Rattle.connection_laws.proofs.UnitSizes.{frames_parts, moments_parts}
+use Rattle.connection_laws.proofs.Lists.{joins_parts}
+
+-- the moments of elements, and the frames among moments, in two parts
+pub moments_parts : (xs ys : List (List ℕ)) → events_of_elements (xs ++ ys) ≡ events_of_elements xs ++
+    events_of_elements ys
+moments_parts = joins_parts events_of_elements (record { one = element_events; none = refl; more = λ x xs. refl })
+
+pub frames_parts : (a b : List ClientEvent) → frames_of (a ++ b) ≡ frames_of a ++ frames_of b
+frames_parts =
+    joins_parts frames_of (record { one = λ e. frames_of (e ∷ []); none = refl; more = λ e es. grind arith })
 
 -- the bytes that were received
 abbrev pub rounds_heard : List Round → List ℕ
 rounds_heard [] = []
 rounds_heard (round ∷ rounds) = bytes_in round.event ++ rounds_heard rounds
+
+-- at each of its moments a watching went on
+abbrev pub HasGoneOn : History → Type 0
+HasGoneOn [] = Unit {0}
+HasGoneOn (m ∷ h) = GoesOn h m × HasGoneOn h
+
+pub gone_on : (h : History) (ms : List ClientEvent) → HasGoneOn h → GoOn h ms → HasGoneOn (history_after h ms)
+gone_on h [] gone good = gone
+gone_on h (m ∷ ms) gone good = gone_on (m ∷ h) ms (good.0, gone) good.1
 
 abbrev pub no_sum : Sum
 no_sum = sum_of []
@@ -48,43 +63,21 @@ pub heard_more : {bytes : List ℕ} {old : WatchStage} {rest : List ℕ} (more :
     (heard : Heard bytes old) → AreInputElements (old.rest ++ more) elements rest
     → GoOn old.history (events_of_elements elements)
     → Heard (bytes ++ more) (stage (history_after old.history (events_of_elements elements)) rest)
-heard_more {bytes} {old} {rest} more elements heard cut good = record {
-  elements = heard.elements ++ elements;
-  cut = let cuts : CutsInTurn bytes more heard.elements elements old.rest rest = grind arith in cuts_join cuts;
-  sum = rw (sum_after old.history (events_of_elements elements), heard.sum)
-      (rw (← (steps_on no_sum (events_of_elements heard.elements) (events_of_elements elements)))
-      (rw (← (moments_parts heard.elements elements))));
-  frames = rw (frames_later old.history (events_of_elements elements), heard.frames)
-      (rw (← (frames_parts (events_of_elements heard.elements) (events_of_elements elements)))
-      (rw (← (moments_parts heard.elements elements))));
-  gone = gone_on old.history (events_of_elements elements) heard.gone good;
-}
-
-same_stage : (new : WatchStage) (h : History) (rest : List ℕ) → new.history ≡ h → new.rest ≡ rest → stage h rest ≡ new
-same_stage new h rest history same = ap (λ x. stage x rest) (sym history) ∙ ap (λ x. stage new.history x) (sym same)
+heard_more {bytes} {old} {rest} more elements heard cut good = search (
+  arith,
+  sum_after old.history (events_of_elements elements),
+  moments_parts heard.elements elements,
+  steps_on no_sum (events_of_elements heard.elements) (events_of_elements elements),
+  frames_later old.history (events_of_elements elements),
+  frames_parts (events_of_elements heard.elements) (events_of_elements elements),
+  gone_on old.history (events_of_elements elements) heard.gone good,
+  cuts_join,
+)
 
 heard_event : {bytes : List ℕ} {old new : WatchStage} (event : IoEvent) (moments : List ClientEvent) → Heard bytes old
     → Brings event old.rest moments new.rest
     → GoOn old.history moments → new.history ≡ history_after old.history moments → Heard (bytes ++ bytes_in event) new
-heard_event {bytes} {old} {new} (HeardBytes more) moments heard brings good history =
-    let G : List ClientEvent → Type 0 = λ ms. GoOn old.history ms in
-    let is : stage (history_after old.history (events_of_elements brings.0)) new.rest ≡ new = grind arith in
-    rw is at (heard_more more brings.0 heard brings.1.0 (subst G brings.1.1 good))
-heard_event {bytes} {old} {new} (HeardSlot slot) moments heard brings good history =
-    let cut = cut_bytes old.rest in
-    let is : stage (Slot slot cut ∷ old.history) old.rest ≡ new =
-    same_stage new (Slot slot cut ∷ old.history) old.rest
-    (history ∙ ap (history_after old.history) brings.0) brings.1 in
-    let mid : Heard bytes (stage (Slot slot cut ∷ old.history) old.rest) =
-    record {
-      elements = heard.elements;
-      cut = heard.cut;
-      sum = heard.sum;
-      frames = heard.frames;
-      gone = (tt, heard.gone);
-    } in
-    rw (append-nil bytes) (subst (Heard bytes) is mid)
-heard_event _ moments heard brings good history = absurd brings
+heard_event event moments given given' given'' given''' = search (arith, heard_more, append-nil)
 
 pub heard_round : (bytes : List ℕ) (old new : WatchStage) (round : Round) → Heard bytes old → Runs old round new
     → Heard (bytes ++ bytes_in round.event) new
@@ -104,13 +97,11 @@ pub replies_later : (h : History) (ms : List ClientEvent) → replies h ≤ repl
 replies_later h ms = omega (arith, replies_grow (sum_of h) ms, ap (λ (s : Sum). s.replies) (sum_after h ms))
 
 -- the play's first slot stays, once its reply was received
-slot_once : (h : History) (m : ClientEvent) → 1 < replies h → (first_slot (m ∷ h) ≡ first_slot h) × (1 < replies (m ∷
-    h))
-slot_once h m given = grind arith
-
 pub slot_stays : (h : History) (ms : List ClientEvent) → 1 < replies h → first_slot (history_after h ms) ≡ first_slot h
 slot_stays h [] playing = refl
-slot_stays h (m ∷ ms) playing = let one = slot_once h m playing in slot_stays (m ∷ h) ms one.1 ∙ one.0
+slot_stays h (m ∷ ms) playing =
+    let one : (first_slot (m ∷ h) ≡ first_slot h) × (1 < replies (m ∷ h)) = grind arith in
+    slot_stays (m ∷ h) ms one.1 ∙ one.0
 
 -- ---- how a watching is done
 
@@ -129,17 +120,13 @@ pub record IsDrained (wish : Wish) (watched : Watched) (bytes out : List ℕ) : 
   pub out_is : out ≡ payloads_of moments
   pub history_is : at.history ≡ history_after [] moments
 
-complete_then : (n : ℕ) (complete : Bool) → n ≡ 2 → (nat_lt n 2 || complete) ≡ true → complete ≡ true
-complete_then n complete two awaited = rw two at awaited
-
 -- the done stage, with its moments
 pub at_done : {wish : Wish} {watched : Watched} {bytes out : List ℕ} {at : WatchStage} {moment : ClientEvent}
     (moments : List ClientEvent) → Heard bytes at → IsNext at.rest moment → Gives wish at.history moment (Done watched)
     → at.history ≡ history_after [] moments → out ≡ payloads_of moments
     → ((done : IsDrained wish watched bytes out) × (done.at ≡ at))
 at_done {out} {at} {moment = Reply message} moments heard next (inl bad) history is = cc
-at_done {out} {at} {moment = Reply message} moments heard next (inr (inl refused)) history is =
-    cc
+at_done {out} {at} {moment = Reply message} moments heard next (inr (inl refused)) history is = cc
 at_done {wish} {watched} {out} {at} {moment = Reply message} moments heard next (inr (inr good)) history is = (
   record {
     at = at;
@@ -149,8 +136,8 @@ at_done {wish} {watched} {out} {at} {moment = Reply message} moments heard next 
     whole = next.1.0;
     moment = next.1.1;
     replies_are = good.1;
-    complete = complete_then (replies at.history) (is_complete at.history) good.1 good.0.0.awaited;
-    watched_is = let same : watched ≡ watched_in wish at.history = cc in same;
+    complete = rw good.1 at good.0.0.awaited;
+    watched_is = cc good.2;
     moments = moments;
     out_is = is;
     history_is = history;

@@ -1,15 +1,11 @@
-use Rattle.std.proofs.lemmas.Grind.{common_steps}
 -- What the requests of a client that wishes for a film settle: its channels, its buffer, its delay and its film, and
 -- the entire run.
-use Rattle.std.proofs.Common.{◌≡◌, ◌≢◌, ℕ, ◌+◌, ◌-◌, ◌<◌, ◌^◌, ◌==◌, not, true, false, List, [], ◌∷◌, ◌++◌, Some}
-use Rattle.std.proofs.Common.{length, drop, get_or, codes, decimal, string_bytes, nat_lt, slice_range, refl, sym, ap}
-use Rattle.std.proofs.Common.{subst, ◌∙◌, arith, inl, inr, append_assoc, lt-ltb}
-use Rattle.std.specs.Char.{is_ascii_digit}
-use Rattle.std.specs.List.{list_all}
-use Rattle.std.proofs.lemmas.Bool.{and_from, cases_lt}
+use Rattle.std.proofs.lemmas.Grind.{common_steps}
+use Rattle.std.proofs.Common.{◌≡◌, ◌≢◌, ℕ, ◌+◌, ◌-◌, ◌<◌, ◌^◌, true, List, [], ◌∷◌, ◌++◌, Some, length, drop, get_or}
+use Rattle.std.proofs.Common.{codes, decimal, string_bytes, slice_range, refl, sym, ap, ◌∙◌, arith, inl, inr}
+use Rattle.std.proofs.Common.{append_assoc}
 use Rattle.std.proofs.lemmas.Fmt.{decimal_digit, decimal_nonempty, digits_decimal}
 use Rattle.std.proofs.lemmas.List.{drop_at, get_or_append_left, get_or-append_right, length-append, take_all}
-use Rattle.std.proofs.lemmas.List.Folds.{list_all_at}
 use Rattle.std.proofs.lemmas.Option.{same_Some}
 use Rattle.connection_laws.proofs.Terms.{Stored, play_parts, setup_parts, film_url, setup_text, IsWish, Wish, IsRead}
 use Rattle.connection_laws.proofs.Terms.{header_value, request_head, Settings, Setup, IsFilmAt, Names, SessionState}
@@ -21,7 +17,7 @@ use Rattle.rtsp_client.proofs.RequestGrammar.{play-asked, setup-asked}
 use Rattle.rtsp_fields.specs.declared.transports.Channels.{Channels}
 use Rattle.rtsp_fields.specs.SeparatedParts.{IsPartEnd}
 use Rattle.rtsp_fields.specs.Transports.{IsTransport}
-use Rattle.rtsp_fields.specs.Urls.{IsTail, NamesFilm}
+use Rattle.rtsp_fields.specs.Urls.{IsTail}
 use Rattle.rtsp_fields.proofs.FieldUniqueness.{name_once, no_other_byte, transport_once}
 use Rattle.rtsp_fields.proofs.FilmPaths.{film_path}
 use Rattle.rtsp_fields.proofs.PartPlaces.{end_once}
@@ -45,8 +41,6 @@ authority_byte port k small inside = grind (arith, no_other_byte, are_digits por
 authority_end : (port : ℕ) (rest : List ℕ) → port < 2 ^ 64
     → IsPartEnd 47 (codes "rtsp://" ++ (authority_of port ++ (47 ∷ rest))) 7 (7 + length (authority_of port))
 authority_end port rest small =
-    let url = codes "rtsp://" ++ (authority_of port ++ (47 ∷ rest)) in
-    let n = length (authority_of port) in
     record {
       after = omega arith;
       within = grind (arith, common_steps);
@@ -86,8 +80,7 @@ url_name {authority} {name} b tail is_tail url_read =
     (rw (drop_at front (47 ∷ rest) n (omega (arith, length-append (codes "rtsp://") (authority_of wish.port))))) in
     let path : slice_range url n (length url) ≡ 47 ∷ rest =
     cc (after, take_all (length url - n) (47 ∷ rest) (omega (arith, size))) in
-    let N : ℕ → Type 0 = λ k. NamesFilm (slice_range url k (length url)) name in
-    name_once (47 ∷ rest) name (string_bytes wish.name) (rw path at (subst N at its.name_is))
+    name_once (47 ∷ rest) name (string_bytes wish.name) (rw (at, path) at its.name_is)
     (film_path (string_bytes wish.name) tail wished.name is_tail)
   where
     open b use {wish, wished, port}
@@ -104,15 +97,9 @@ pub record IsSettled (wish : Wish) (films : List Stored) (setup : Setup) : Type 
 two_channels : (channels : Channels) → IsTransport (codes "RTP/AVP/TCP;unicast;interleaved=0-1") channels
     → channels ≡ record { media = 0; control = 1 }
 two_channels channels is =
-    let C : Channels = record { media = 0; control = 1 } in
-    let P : List ℕ → List ℕ
-    → Type 0 = λ a b. IsTransport (codes "RTP/AVP/TCP;unicast;interleaved=" ++ (a ++ 45 ∷ b)) C in
-    let zero_is : decimal 0 ≡ codes "0" = decimal_digit 0 (omega arith) in
-    let one_is : decimal 1 ≡ codes "1" = decimal_digit 1 (omega arith) in
-    let read : P (decimal 0) (decimal 1) = transport_read 0 1 (omega arith) (omega arith)
-    (λ same. omega (arith, same)) in
-    transport_once (codes "RTP/AVP/TCP;unicast;interleaved=0-1") channels C is
-    (rw one_is at (subst (λ a. P a (decimal 1)) zero_is read))
+    let read = transport_read 0 1 (omega arith) (omega arith) (λ same. omega (arith, same)) in
+    transport_once (codes "RTP/AVP/TCP;unicast;interleaved=0-1") channels (record { media = 0; control = 1 }) is
+    (rw (decimal_digit 0 (omega arith), decimal_digit 1 (omega arith)) at read)
 
 -- a number in its range that is written is read
 chosen_is : {least most number : ℕ} (written : ℕ) → WritesNumber least most (decimal written) number

@@ -1,25 +1,24 @@
 -- Each reply to a client's SETUP, PLAY and TEARDOWN is a complete message.
 use Rattle.std.specs.Prelude.{⊤}
-use Rattle.std.proofs.Common.{◌≡◌, ℕ, ◌<◌, ◌≤◌, ◌^◌, ◌⊎◌, List, [], ◌++◌, refl, codes, decimal, string_bytes, length}
-use Rattle.std.proofs.Common.{sym, ap, subst, ◌∙◌, arith, inl, inr}
+use Rattle.std.proofs.Common.{◌≡◌, ℕ, ◌<◌, ◌≤◌, ◌^◌, List, [], refl, codes, length, sym, subst, arith, inl, inr}
 use Rattle.std.proofs.lemmas.List.{length-append}
-use Rattle.connection_laws.proofs.Terms.{Stored, Admitted, PlacedEntry, teardown_parts, film_url, play_text, setup_text}
+use Rattle.connection_laws.proofs.Terms.{Admitted, PlacedEntry, teardown_parts, film_url, play_text, setup_text}
 use Rattle.connection_laws.proofs.Terms.{teardown_text, IsRequest, request_head, Ask, setup_in, session_text}
 use Rattle.connection_laws.proofs.Terms.{after_admission, SessionState, HasValidIds, IsMessage, Entered, Outcome, Stage}
 use Rattle.connection_laws.proofs.Terms.{AreAnswers, IsAnswer}
-use Rattle.rtsp_replies.proofs.ReplyMessages.{short-decimal, name_printed}
+use Rattle.rtsp_replies.proofs.ReplyMessages.{short-decimal}
 use Rattle.rtsp_client.proofs.RequestGrammar.{teardown-asked}
 use Rattle.rtsp_client.proofs.RequestTexts.{play_rest, setup_rest, teardown_rest}
 use Rattle.rtsp_client.proofs.Texts.{put-long}
 use Rattle.rtsp_text.proofs.MessageUniqueness.{request_once}
 use Rattle.session.specs.declared.commands.Ask.TheVariants.{Reply as AskReply, Halt as AskHalt}
 use Rattle.session_laws.specs.EndLaws.{HaltsPlay}
-use Rattle.session.specs.Laws.{IsTeardown, PlayingStage, StateKind as SessionStage, stage_of}
+use Rattle.session.specs.Laws.{IsTeardown, StateKind as SessionStage, stage_of}
 use Rattle.session_laws.specs.CompleteReplies.{LeavesRoom, RepliesAreComplete}
 use Rattle.session_laws.proofs.PauseTeardownLemmas.{teardown_ends}
 use Rattle.session_laws.proofs.CompleteReplyLemmas.{keeps_named, replies_whole}
-use Rattle.connection_laws.proofs.KeptParts.{answered_names, names_in, replied_names, IsSameSetup}
-use Rattle.connection_laws.proofs.KeptParts.{replied_setup, comes_setup}
+use Rattle.connection_laws.proofs.KeptParts.{answered_names, names_in, replied_names, IsSameSetup, replied_setup}
+use Rattle.connection_laws.proofs.KeptParts.{comes_setup}
 use Rattle.connection_laws.proofs.ReplyReadings.{IsPrinted, printed_w64, teardown_read as read_teardown}
 use Rattle.connection_laws.proofs.RequestReplies.{IsNamed, named_still, teardown_replied}
 use Rattle.conn.proofs.StationAnswers.{AnswersAs, NoneAsked, PlayAdmitted, PlayOverflowed, PlayHalted, LookMade}
@@ -87,29 +86,22 @@ admitted_from is (LookMade looked) = cc
 own_halt : (stage : SessionStage) (ask : Ask) → HaltsPlay stage ask → IsOwnReply ask
 own_halt stage ask given = grind arith
 
-teardown_read : (b : Beginning) {old new : Stage} (request : AnsweredRequest old new)
-    → request.message ≡ teardown_text b.wish b.session
-    → (request.replied.heard.ask ≡ AskReply) ⊎ IsTeardown request.message
-teardown_read b request is = elim request.replied.heard.hears [
-  | inl fault ↦ inl fault.refused.0
-  | inr whole ↦
-      let asked = teardown-asked b.wish b.session b.wished b.port b.session_is in
-      let R : List ℕ → Type 0 = λ m.
-      IsRequest m (codes "TEARDOWN") (film_url b.wish) 3 (request_head (teardown_parts b.wish b.session)) [] in
-      let same = request_once whole.is_request (subst R (sym is) asked.read) in
-      inr (record { request = whole.request; is_request = whole.is_request; method_is = same.method_is })
-]
-
 teardown_own : (b : Beginning) {old new : Stage} (request : AnsweredRequest old new)
     → request.message ≡ teardown_text b.wish b.session → IsOwnReply request.replied.heard.ask
 teardown_own b {old} request is =
     let heard = request.replied.heard in
-    elim (teardown_read b request is) [
-      | inl reply ↦ rw reply tt
-      | inr teardown ↦ elim (teardown_ends old.session heard.asking request.message heard.ask teardown heard.hears) [
-        | inl declined ↦ rw declined.command tt
-        | inr torn ↦ own_halt (stage_of old.session.state) heard.ask torn.halts
-      ]
+    elim heard.hears [
+      | inl fault ↦ rw fault.refused.0 tt
+      | inr whole ↦
+          let asked = teardown-asked b.wish b.session b.wished b.port b.session_is in
+          let R : List ℕ → Type 0 = λ m.
+          IsRequest m (codes "TEARDOWN") (film_url b.wish) 3 (request_head (teardown_parts b.wish b.session)) [] in
+          let same = request_once whole.is_request (subst R (sym is) asked.read) in
+          let teardown : IsTeardown request.message = search arith in
+          elim (teardown_ends old.session heard.asking request.message heard.ask teardown heard.hears) [
+            | inl declined ↦ rw declined.command tt
+            | inr torn ↦ own_halt (stage_of old.session.state) heard.ask torn.halts
+          ]
     ]
 
 -- ---- the requests leave room for what replies repeat of them
@@ -118,17 +110,13 @@ url_short : (b : Beginning) → length (film_url b.wish) ≤ 102
 url_short b = grind (arith, length-append, short-decimal b.wish.port (omega (arith, b.port)))
 
 pub setup_room : (b : Beginning) {message : List ℕ} → message ≡ setup_text b.wish → LeavesRoom message
-setup_room b is =
-    grind (
-      arith,
-      put-long (codes "SETUP ") (setup_rest b.wish),
-      url_short b,
-      short-decimal b.wish.buffer (omega (
-        arith,
-        b.wished.most_buffer,
-      )),
-      short-decimal b.wish.startup (omega (arith, b.wished.startup)),
-    )
+setup_room b is = search (
+  arith,
+  put-long (codes "SETUP ") (setup_rest b.wish),
+  url_short b,
+  short-decimal b.wish.buffer (omega (arith, b.wished.most_buffer)),
+  short-decimal b.wish.startup (omega (arith, b.wished.startup)),
+)
 
 pub play_room : (b : Beginning) {message : List ℕ} → message ≡ play_text b.wish b.session → LeavesRoom message
 play_room b is = grind (arith, put-long (codes "PLAY ") (play_rest b.wish b.session), url_short b)
@@ -149,21 +137,15 @@ AreTeardowns b = Each (IsTeardownOf b)
 abbrev pub AreWhole : List (List ℕ) → Type 0
 AreWhole = Each IsMessage
 
--- the reply to a TEARDOWN is complete and 200, and the session keeps its names
-record IsTorn (b : Beginning) (new : SessionState) (reply : List ℕ) : Type 0 where
-  named : HasValidIds new
-  own : IsNamed b new
-  whole : IsMessage reply
-  answer : IsAnswer reply 3 200
-
 -- an id of a session is printable
 pub id_printed : {s : SessionState} → HasValidIds s → IsPrinted s.id
 id_printed {s} named = rw named.id_is (printed_w64 named.number)
 
--- the reply to one TEARDOWN
+-- the reply to one TEARDOWN is complete and 200, and the session keeps its names
 torn_reply : {b : Beginning} {old new : Stage} (request : AnsweredRequest old new)
     → request.message ≡ teardown_text b.wish b.session → HasValidIds old.session → IsNamed b old.session
-    → IsTorn b new.session request.replied.answered.text
+    → HasValidIds new.session × IsNamed b new.session × IsMessage request.replied.answered.text
+    × IsAnswer request.replied.answered.text 3 200
 torn_reply {b} {old} request is valid named =
     let heard = replied.heard in
     let own = teardown_own b request is in
@@ -171,15 +153,14 @@ torn_reply {b} {old} request is valid named =
     let told = teardown_replied b request is named in
     let its = own_reply (answers_as heard.ask outcome heard.answered) own in
     let whole = its.whole complete in
-    let text : replied.answered.text ≡ session_text 3 old.session.id = rw (its.text, told.text) in
+    let text : replied.answered.text ≡ session_text 3 old.session.id = rw (its.text, told.0) in
     let same : IsSameSetup heard.asking replied.answered = search answered_names in
-    let still = named_still (replied_setup replied.answered) (named_still same (named_still told.same named)) in
-    record {
-      named = answered_named request valid;
-      own = rw replied.new_is still;
-      whole = whole;
-      answer = read_teardown old.session.id whole (id_printed valid) text;
-    }
+    let still = named_still (replied_setup replied.answered) (named_still same (named_still told.1 named)) in (
+      answered_named request valid,
+      rw replied.new_is still,
+      whole,
+      read_teardown old.session.id whole (id_printed valid) text,
+    )
   where
     open request use {message, outcome, replied}
 
@@ -192,7 +173,6 @@ pub torn_back : (b : Beginning) → GoesBack (TornFrom b)
 torn_back b = record {
   request = λ old new request later torn valid named are.
       let one = torn_reply {b = b} request are.0 valid named in
-      let rest = torn one.named one.own are.1 in ((one.whole, rest.0), (one.answer, rest.1));
-  event = λ old opened round comes later torn valid named are.
-      torn (named_as (comes_setup comes).names valid) (named_still (comes_setup comes) named) are;
+      let rest = torn one.0 one.1 are.1 in ((one.2, rest.0), (one.3, rest.1));
+  event = search (arith, comes_setup);
 }

@@ -1,21 +1,18 @@
-use Rattle.std.proofs.lemmas.Grind.{common_steps}
 -- Courses joined and parted, and one induction over what a connection does, from its first event on.
-use Rattle.std.proofs.Common.{◌++◌, List, ◌∷◌, refl, subst, ◌≡◌, ℕ, ◌^◌, ◌<◌, ◌≤◌, ◌&&◌, if◌then◌else◌, Bool, true}
-use Rattle.std.proofs.Common.{false, nat_le, max, ap, sym, ◌∙◌, arith, []}
-use Rattle.std.proofs.lemmas.Bool.{ltb-true, ltb-false}
+use Rattle.std.proofs.lemmas.Grind.{common_steps}
+use Rattle.std.proofs.Common.{◌++◌, List, ◌∷◌, refl, subst, ◌≡◌, ℕ, max, ap, ◌∙◌, arith, []}
 use Rattle.std.proofs.lemmas.List.{append_assoc, append-nil}
 use Rattle.connection_laws.proofs.Terms.{Round, Runs, Stage, Answered, ElementStep, IsReplied, Outcome, Passed}
 use Rattle.connection_laws.proofs.Terms.{SentPart, TakesAll, IsCourseBetween, IsCourseSplit, asked_by, askings_of}
-use Rattle.connection_laws.proofs.Terms.{greatest_slot, round_askings, takings_askings, Course, first_stage, HeardSlot}
-use Rattle.connection_laws.proofs.Terms.{after_play, is_between, is_sending, sent_due, sent_slot, after_slot}
-use Rattle.connection_laws.proofs.Terms.{stepped_in, SessionState, rounds_parts, round_parts, takings_parts}
-use Rattle.connection_laws.proofs.Terms.{StationRequest, Asks, slots_from}
+use Rattle.connection_laws.proofs.Terms.{greatest_slot, round_askings, takings_askings, Course, first_stage}
+use Rattle.connection_laws.proofs.Terms.{SessionState, rounds_parts, round_parts, takings_parts, StationRequest, Asks}
+use Rattle.connection_laws.proofs.Terms.{slots_from}
 use Rattle.conn.specs.EventSteps.{RunsAll}
 use Rattle.connection_laws.specs.Courses.{slot_in}
 use Rattle.connection_laws.specs.Replies.{replies_of, takings_replies}
 use Rattle.connection_laws.specs.ReplyPlaces.{takings_slots}
-use Rattle.connection_laws.proofs.KeptParts.{LastingPart, finish_keeps, reply_keeps, taken_keeps, takes_heard}
-use Rattle.conn.proofs.StationAnswers.{ComesAs, BytesCame, SlotCame, comes_as}
+use Rattle.connection_laws.proofs.KeptParts.{LastingPart, finish_keeps, taken_keeps, takes_keep}
+use Rattle.conn.proofs.StationAnswers.{ComesAs, comes_as}
 
 -- where a course begins
 abbrev pub begin_of : Course → Stage
@@ -47,26 +44,14 @@ parts_of old new (round ∷ first) rest follows =
 
 -- ---- the slot that was received last
 
-sent_heard : (old : SessionState) (slot : ℕ) → (after_play (sent_slot old slot)).heard ≡ slot
-sent_heard old slot = grind arith
-
-slot_cases : {later : Bool} (old : SessionState) (slot : ℕ) (small sending : Bool) → (later ≡ true → old.heard < slot)
-    → (later ≡ false → slot ≤ old.heard)
-    → (if later && small then (if sending then after_play (sent_slot old slot) else record old { heard = slot }) else
-    old).heard ≡ max old.heard (if small then slot else 0)
-slot_cases old slot small sending given given' = grind arith
-
-slotted_heard : (old : SessionState) (slot : ℕ) → (after_slot old slot).heard ≡ max old.heard (slot_in (HeardSlot slot))
-slotted_heard old slot = grind (arith, common_steps)
-
 pub comes_heard : {old opened : Stage} {round : Round} → ComesAs old round opened
     → opened.session.heard ≡ max old.session.heard (slot_in round.event)
-comes_heard given = grind (arith, finish_keeps, slotted_heard)
+comes_heard given = grind (arith, common_steps, finish_keeps)
 
 pub round_heard : (old new : Stage) (round : Round) → Runs old round new
     → new.session.heard ≡ max old.session.heard (slot_in round.event)
-round_heard old new round runs =
-    takes_heard runs.opened new round.takings runs.takes ∙ comes_heard (comes_as round runs.comes)
+round_heard old new round runs = search
+    (arith, takes_keep runs.opened new round.takings runs.takes, comes_heard (comes_as round runs.comes))
 
 -- it is the greatest one
 pub course_heard : (old new : Stage) (rounds : List Round) → IsCourseBetween old rounds new
@@ -116,9 +101,6 @@ joined a b = record {
 
 joined_assoc : (a b c : Piece) → joined (joined a b) c ≡ joined a (joined b c)
 joined_assoc a b c = rw (append_assoc, append_assoc, append_assoc, append_assoc, append_assoc)
-
-joined_none : (a : Piece) → joined a no_piece ≡ a
-joined_none a = grind (arith, common_steps)
 
 -- a request that was processed, and what came of it
 pub record AnsweredRequest (old new : Stage) : Type 0 where
@@ -189,17 +171,13 @@ module _ {R : SessionState → Piece → SessionState → Type 0} (kept : IsKept
       let rest = takings_piece takes.0 takings new takes.1.1 in
       subst (λ h. R old.session (joined first (record rest { slots = takings_slots h takings })) new.session)
       (ap (λ (part : LastingPart). part.heard) (taken_keeps takes.1.0))
-      (kept.joins old.session takes.0.session new.session first rest
-      (kept.request old takes.0 request) (takings_kept takes.0 new takings takes.1.1))
+      (kept.joins _ _ _ first rest (kept.request old takes.0 request) (takings_kept takes.0 new takings takes.1.1))
 
   pub round_kept : (old new : Stage) (round : Round) (runs : Runs old round new)
       → R old.session (round_piece old round new runs) new.session
   round_kept old new round runs =
       let comes = comes_as round runs.comes in
-      let first = event_piece old.session round in
-      let rest = takings_piece runs.opened round.takings new runs.takes in
-      rw (← (comes_heard comes)) (kept.joins old.session runs.opened.session new.session first rest
-      (kept.event old runs.opened round comes)
+      rw (← (comes_heard comes)) (kept.joins _ _ _ _ _ (kept.event old runs.opened round comes)
       (takings_kept runs.opened new round.takings runs.takes))
 
   pub course_kept : (old new : Stage) (rounds : List Round) (follows : IsCourseBetween old rounds new)
@@ -210,7 +188,7 @@ module _ {R : SessionState → Piece → SessionState → Type 0} (kept : IsKept
       let rest = course_piece follows.0 rounds new follows.1.1 in
       subst (λ h. R old.session (joined first (record rest { slots = slots_from h rounds })) new.session)
       (round_heard old follows.0 round follows.1.0)
-      (kept.joins old.session follows.0.session new.session first rest (round_kept old follows.0 round follows.1.0)
+      (kept.joins _ _ _ first rest (round_kept old follows.0 round follows.1.0)
       (course_kept follows.0 new rounds follows.1.1))
 
 -- all that is done in a course
@@ -225,13 +203,10 @@ pub record GoesBack (Q : SessionState → Piece → Type 0) : Type 0 where
       → Q opened.session later → Q old.session (joined (event_piece old.session round) later)
 
 module _ {Q : SessionState → Piece → Type 0} (back : GoesBack Q) where
-  abbrev BackOver : SessionState → Piece → SessionState → Type 0
-  BackOver old piece new = (later : Piece) → Q new later → Q old (joined piece later)
-
-  back_kept : IsKeptByCourse BackOver
+  back_kept : IsKeptByCourse (λ old piece new. (later : Piece) → Q new later → Q old (joined piece later))
   back_kept = search joined_assoc
 
   pub course_back : (course : Course) → Q course.last.session no_piece → Q (begin_of course).session (piece_of course)
   course_back course is =
-      rw (joined_none (piece_of course)) at
+      rw (append-nil, append-nil, append-nil, append-nil, append-nil) at
       (course_kept back_kept (begin_of course) course.last course.rounds course.follows no_piece is)

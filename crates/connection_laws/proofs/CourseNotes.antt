@@ -1,181 +1,157 @@
-use Rattle.std.proofs.Common.{arith}
+-- The notes of a connection's report, event by event: each play that its entries admit has its note, and each answer of
+-- the station's its receipt or its offer.
+use Rattle.std.proofs.Common.{arith, ◌≡◌, ℕ, ◌++◌, List, [], ◌∷◌, refl, ◌∙◌, map}
 use Rattle.std.proofs.lemmas.Grind.{common_steps}
--- The notes of a connection's report, event by event: each play that its entries admit has its note.
-use Rattle.std.proofs.Common.{◌≡◌, ℕ, ◌++◌, Bool, false, List, [], ◌∷◌, None, refl, sym, ap, ◌∙◌, Option, Some, map}
-use Rattle.std.proofs.lemmas.List.{append-nil, map-append, append_assoc}
-use Rattle.connection_laws.proofs.Terms.{Stored, Settings, Awaited, Nothing, Halt, AfterHalt, State, Init, Ready}
-use Rattle.connection_laws.proofs.Terms.{Playing, Stopping, kept_of, after_slot, stepped_in, SessionState, open_of}
-use Rattle.connection_laws.proofs.Terms.{AwaitedAnswer, awaited_answer, HaltAnswer, NoAnswer, after_stop, Outcome}
-use Rattle.connection_laws.proofs.Terms.{Unasked, Entered, entry_in, ConnReport, Activity, HasDone, doings_outcomes}
-use Rattle.connection_laws.proofs.Terms.{StationCall, notes_of_calls, station_call, kept_later, noted_for, outcome_of}
-use Rattle.connection_laws.proofs.Terms.{Run, play_admitted, PlacedEntry, Setup, entries_in, booked_by, kept_among}
-use Rattle.session.specs.SessionStates.{open_in}
-use Rattle.session.specs.SlotTransitions.{IsCarried}
-use Rattle.connection_laws.specs.Notes.{notes_of, noted_play, placed_play, placed_plays, PlacedPlay}
-use Rattle.connection_laws.proofs.PlayNotes.{HaveSameNotes, note_part, Carries, IsKept, answered_on, asks_play}
-use Rattle.connection_laws.proofs.PlayNotes.{carries_none, halt_turn, notes_until, open_note}
-use Rattle.connection_laws.proofs.PlayNotes.{same_notes, unasked_turn, until_append}
-use Rattle.connection_laws.proofs.StationAnswers.{closing, closes_as, halt_of}
-use Rattle.connection_laws.proofs.CourseTurns.{IsKeptByDoings, doings_kept, all_calls, turns_told}
-use Rattle.connection_laws.proofs.KeptParts.{slot_keeps, state_keeps}
-use Rattle.slot_calendar.specs.Plays.{Play as Booked}
-use Rattle.session_laws.proofs.RunLemmas.{AskedPlay}
-use Rattle.connection_laws.proofs.RequestEffects.{RequestAnswer, Admission, Refusal, HaltMade, LookAnswer, at_play}
+use Rattle.std.proofs.lemmas.List.{append_assoc, append-nil, map-append}
+use Rattle.connection_laws.proofs.Terms.{total_bytes, PlacedEntry, Awaited, Play, State, Playing, after_halt, kept_of}
+use Rattle.connection_laws.proofs.Terms.{SessionState, Outcome, Entered, StationCall, kept_later, notes_of_calls}
+use Rattle.connection_laws.proofs.Terms.{station_call, Stored, Settings, open_of, AwaitedAnswer, HaltAnswer, ConnReport}
+use Rattle.connection_laws.proofs.Terms.{Activity, HasDone, doings_outcomes, outcome_of, entries_in, kept_among}
+use Rattle.connection_laws.proofs.Terms.{first_stage}
+use Rattle.session_records.specs.declared.notes.PlayNote.{PlayNote}
+use Rattle.session.specs.SlotSteps.{note_of}
+use Rattle.connection_laws.specs.Notes.{notes_of, noted_play, placed_plays}
+use Rattle.conn.proofs.StationAnswers.{IsHaltEntry, FinishesAs, NothingLeft, DoneHalted}
+use Rattle.connection_laws.proofs.RequestEffects.{RequestAnswer, Admission, Refusal, HaltMade, LookAnswer, at_halt}
 use Rattle.connection_laws.proofs.RequestEffects.{request_answer}
+use Rattle.connection_laws.proofs.StationAnswers.{closing, closes_as}
+use Rattle.connection_laws.proofs.CourseTurns.{IsKeptByDoings, doings_kept, all_calls, turns_told}
 use Rattle.connection_laws.proofs.BookedPlays.{kept_more}
-use Rattle.conn.proofs.StationAnswers.{FinishesAs, NothingLeft, DoneHalted}
-use Rattle.connection_laws.proofs.Lists.{Each, each_append}
+use Rattle.connection_laws.proofs.Lists.{joins_parts}
+use Rattle.connection_laws.specs.Receipts.{offer_in, offers_in, receipt_in, receipts_in}
 
--- ---- slots
-settled_open : (state : State) (later : List StationCall) → open_note (after_stop state) later ≡ open_note state later
-settled_open state later = grind arith
+-- the note of a play that is under way, by what comes later
+abbrev open_note : State → List StationCall → List PlayNote
+open_note (Playing setup play) turns = note_of setup play (kept_later turns (total_bytes play.plan)) ∷ []
+open_note _ turns = []
 
-slotted_same : (old : SessionState) (slot : ℕ) → HaveSameNotes (note_part (after_slot old slot)) (note_part old)
-slotted_same old slot = grind (arith, common_steps)
+-- the notes of turns, by what comes later
+abbrev notes_until : List StationCall → List StationCall → List PlayNote
+notes_until [] later = []
+notes_until (turn ∷ turns) later = notes_of_calls turn.asking turn.outcome (turns ++ later) ++ notes_until turns later
 
--- what is halted as a slot or a connection ends is kept as it was asked for, and is no play that was asked for
-abbrev HaltsKept : SessionState → AwaitedAnswer → Type 0
-HaltsKept s asks = (keep : ℕ) → asks ≡ HaltAnswer keep
-    → IsKept s.state s.awaited keep × (asks_play s.awaited ≡ false)
+-- what was noted and what is under way go on through turns
+record Carries (old : SessionState) (turns : List StationCall) (new : SessionState) : Type 0 where
+  on : (later : List StationCall) → (old.plays ++ open_note old.state (turns ++ later)) ++ notes_until turns later
+      ≡ new.plays ++ open_note new.state later
 
-slot_halts : (s : SessionState) → HaltsKept s (awaited_answer s)
-slot_halts s = grind arith
+until_append : (ts us later : List StationCall)
+    → notes_until (ts ++ us) later ≡ notes_until ts (us ++ later) ++ notes_until us later
+until_append [] us later = refl
+until_append (t ∷ ts) us later = grind (arith, until_append ts us later, append_assoc)
 
-kept_open : (state : State) (awaited : Awaited) (keep : ℕ) → closing (open_in state) ≡ HaltAnswer keep
-    → awaited ≡ Nothing → IsKept state awaited keep
-kept_open state awaited keep given given' = grind arith
+-- no play is asked for, and of a play that is under way so much is kept
+abbrev IsKept : State → Awaited → ℕ → Type 0
+IsKept state (Play prepared) keep = ⊥
+IsKept (Playing setup play) awaited keep = kept_of awaited play.pacer.due ≡ keep
+IsKept _ awaited keep = Unit {0}
 
-end_halts : (s : SessionState) → s.awaited ≡ Nothing → HaltsKept s (closing (open_of s))
-end_halts s rest = λ keep opens. (kept_open s.state s.awaited keep opens rest, ap asks_play rest)
+halt_turn : {keep : ℕ} {placed : PlacedEntry} (s : SessionState) → IsHaltEntry keep placed
+    → IsKept s.state s.awaited keep → Carries s (station_call s (Entered placed) ∷ []) (after_halt s placed.place)
+halt_turn {placed = placed} s entry kept = grind arith
 
+-- by what was asked and answered
+answered_on : {old asking new : SessionState} {outcome : Outcome} → RequestAnswer old asking outcome new
+    → Carries old (station_call asking outcome ∷ []) new
+answered_on (HaltMade halt entry) = record { on = (halt_turn (at_halt halt) entry refl).on }
+answered_on {new = new} (Admission {base = base} play entry answered) = grind (arith, common_steps)
+answered_on {old} {asking} {outcome = outcome} (Refusal play entry) = grind (arith, common_steps)
+answered_on {old} {asking} {outcome = outcome} (LookAnswer {placed = placed} command looked) = grind
+    (arith, common_steps)
+answered_on {old} {asking} {new} {outcome} _ = grind (arith, common_steps)
+
+-- what is halted as a slot or a connection ends is kept as it was asked for
 finished_turn : {s new : SessionState} {asks : AwaitedAnswer} {halt : Outcome} → FinishesAs s asks halt new
-    → HaltsKept s asks → Carries (note_part s) (station_call s halt ∷ []) (note_part new)
-finished_turn {s} NothingLeft kept = unasked_turn (note_part s) s
-finished_turn {s} (DoneHalted {keep = keep} entry) kept = halt_turn s entry (kept keep refl).0 (kept keep refl).1
+    → ((keep : ℕ) → asks ≡ HaltAnswer keep → IsKept s.state s.awaited keep) → Carries s (station_call s halt ∷ []) new
+finished_turn {s} NothingLeft kept = grind (arith, common_steps)
+finished_turn {s} (DoneHalted {keep = keep} entry) kept = halt_turn s entry (kept keep refl)
 
 closed_none : {s new : SessionState} {asks : AwaitedAnswer} {halt : Outcome} → FinishesAs s asks halt new
     → closing (open_of s) ≡ asks → open_note new.state [] ≡ []
 closed_none given given' = grind arith
 
--- a play that a failed send leaves as it was
-carried_open : (old new : State) → IsCarried old new → (later : List StationCall) → open_note new later ≡ open_note old
-    later
-carried_open old new given later = grind arith
-
--- ---- all notes
-abbrev CarriesOf : SessionState → List StationCall → SessionState → Type 0
-CarriesOf old turns new = Carries (note_part old) turns (note_part new)
-
-carries_kept : IsKeptByDoings CarriesOf
-carries_kept = record {
-  none = λ s. carries_none (note_part s);
-  joins = grind (arith, append_assoc, until_append);
-  request = λ old new message outcome heard. answered_on (request_answer heard);
-  reply = λ s. same_notes (record { plays = refl; under_way = λ later. settled_open s.state later });
-  slot = λ s n. same_notes (slotted_same s n);
-  finish = λ halt s new finishing. finished_turn finishing (slot_halts s);
-  bytes = λ s. unasked_turn (note_part s) s;
-  failed = grind (arith, same_notes, carried_open);
-  lost = λ s. carries_none (note_part s);
-  close = λ halt last closed closes rest. finished_turn closes (end_halts last rest);
-}
-
 until_none : (turns : List StationCall) → notes_until turns [] ≡ notes_of turns
 until_none [] = refl
 until_none (turn ∷ turns) = rw (append-nil turns, until_none turns)
-
-pub plays_noted : {films : List Stored} {settings : Settings} {words : List ℕ} {doings : Activity} {report : ConnReport}
-    (done : HasDone films settings words doings report) → report.plays.items ≡ notes_of (all_calls done)
-plays_noted {doings = doings} done =
-    let all = doings_kept done carries_kept in
-    let closed = closed_none (closes_as (open_of done.last.session) doings.halt done.closes) refl in
-    cc (done.report_is.plays, append-nil done.closed.plays, closed, all.on [], until_none (all_calls done))
-
--- the play that an answer's entry records
-abbrev placed_by : Outcome → List PlacedEntry → List PlacedPlay
-placed_by (Entered placed) made =
-    map (placed_play placed.place) (booked_by (play_admitted placed.entry.command placed.entry.answer) made)
-placed_by _ made = []
-
--- turns keep of a play what these entries keep of it
-abbrev KeepsAs : List StationCall → List PlacedEntry → Type 0
-KeepsAs turns made = (all : ℕ) → kept_later turns all ≡ kept_among made all
-
--- what comes later, as turns and as entries
-record Sequel : Type 0 where
-  turns : List StationCall
-  made : List PlacedEntry
-  keeps : KeepsAs turns made
-
--- a turn's note is that of the play that its entry records, if any
-abbrev IsNoted : SessionState → Outcome → Type 0
-IsNoted asking outcome = (later : Sequel)
-    → map noted_play (notes_of_calls asking outcome later.turns) ≡ placed_by outcome later.made
-
-abbrev IsNotedCall : StationCall → Type 0
-IsNotedCall turn = IsNoted turn.asking turn.outcome
 
 -- ---- turns and entries
 abbrev made_by_turns : List StationCall → List PlacedEntry
 made_by_turns turns = entries_in (map outcome_of turns)
 
-keeps_as : (turns : List StationCall) → KeepsAs turns (made_by_turns turns)
+keeps_as : (turns : List StationCall) (all : ℕ) → kept_later turns all ≡ kept_among (made_by_turns turns) all
 keeps_as [] all = refl
 keeps_as (turn ∷ turns) all = rw (keeps_as turns all, kept_more turn.outcome (made_by_turns turns) all)
 
-placed_more : (outcome : Outcome) (made : List PlacedEntry)
-    → placed_by outcome made ++ placed_plays made ≡ placed_plays (entry_in outcome ++ made)
-placed_more outcome made = grind arith
+-- notes go on, what is noted of answers grows by theirs, and a play's note is that of the play that its entry records
+record Notes (old : SessionState) (turns : List StationCall) (new : SessionState) : Type 0 where
+  carries : Carries old turns new
+  plays : (later : List StationCall) → map noted_play (notes_until turns later) ++ placed_plays (made_by_turns later)
+      ≡ placed_plays (made_by_turns (turns ++ later))
+  receipts : new.receipts ≡ old.receipts ++ receipts_in (map outcome_of turns)
+  offers : new.offers ≡ old.offers ++ offers_in (map outcome_of turns)
 
-turns_noted : (turns : List StationCall) → Each IsNotedCall turns
-    → map noted_play (notes_of turns) ≡ placed_plays (made_by_turns turns)
-turns_noted [] are = refl
-turns_noted (turn ∷ turns) are = cc (
-  map-append noted_play (notes_of_calls turn.asking turn.outcome turns) (notes_of turns),
-  are.0 (record { turns = turns; made = made_by_turns turns; keeps = keeps_as turns }),
-  turns_noted turns are.1,
-  placed_more turn.outcome (made_by_turns turns),
-)
-
--- ---- one turn
-
-play_noted : {base : SessionState} (play : AskedPlay base) (placed : PlacedEntry)
-    → IsNoted (at_play play) (Entered placed)
-play_noted play placed later = grind arith
-
--- by what was asked and answered
-answered_noted : {old asking new : SessionState} {outcome : Outcome} → RequestAnswer old asking outcome new
-    → IsNoted asking outcome
-answered_noted (Admission {placed = placed} play entry answered) = play_noted play placed
-answered_noted (Refusal {placed = placed} play entry) = play_noted play placed
-answered_noted {asking = asking} (HaltMade {placed = placed} halt entry) = grind arith
-answered_noted {asking = asking} (LookAnswer {placed = placed} command looked) = grind arith
-answered_noted _ = λ later. refl
-
--- the halt of a play that is done, or of a booking that is open at the end
-finished_noted : {s new : SessionState} {asks : AwaitedAnswer} {halt : Outcome} → FinishesAs s asks halt new
-    → HaltsKept s asks → IsNoted s halt
-finished_noted given given' = grind arith
-
--- ---- all notes
-abbrev NotedCalls : SessionState → List StationCall → SessionState → Type 0
-NotedCalls old turns new = Each IsNotedCall turns
-
-noted_kept : IsKeptByDoings NotedCalls
-noted_kept = record {
-  none = λ s. tt;
-  joins = λ a b c xs ys one two. each_append IsNotedCall xs ys one two;
-  request = λ old new message outcome heard. (answered_noted (request_answer heard), tt);
-  reply = λ s. tt;
-  slot = λ s n. tt;
-  finish = λ halt s new finishing. (finished_noted finishing (slot_halts s), tt);
-  bytes = λ s. (λ later. refl, tt);
-  failed = λ old new slot front failed. tt;
-  lost = λ s. tt;
-  close = λ halt last closed closes rest. (finished_noted closes (end_halts last rest), tt);
+notes_answer : {old asking new : SessionState} {outcome : Outcome} → RequestAnswer old asking outcome new
+    → Notes old (station_call asking outcome ∷ []) new
+notes_answer given = record {
+  carries = answered_on given;
+  plays = grind (arith, common_steps, keeps_as);
+  receipts = grind (arith, common_steps);
+  offers = grind (arith, common_steps);
 }
 
-pub entries_noted : {films : List Stored} {settings : Settings} {words : List ℕ} {doings : Activity}
-    {report : ConnReport} → HasDone films settings words doings report
-    → map noted_play report.plays.items ≡ placed_plays (entries_in (doings_outcomes doings))
-entries_noted done = rw (plays_noted done, turns_noted (all_calls done) (doings_kept done noted_kept), turns_told done)
+notes_finished : {s new : SessionState} {asks : AwaitedAnswer} {halt : Outcome} → FinishesAs s asks halt new
+    → ((keep : ℕ) → asks ≡ HaltAnswer keep → IsKept s.state s.awaited keep) → Notes s (station_call s halt ∷ []) new
+notes_finished given kept = let carries = finished_turn given kept in grind (arith, common_steps)
+
+notes_kept : IsKeptByDoings Notes
+notes_kept = record {
+  none = grind (arith, common_steps);
+  joins = λ a b c xs ys one two.
+      let os = map outcome_of xs in
+      let ps = map outcome_of ys in
+      let receipts = joins_parts receipts_in (record { one = receipt_in; none = refl; more = λ x xs. refl }) os ps in
+      let offers = joins_parts offers_in (record { one = offer_in; none = refl; more = λ x xs. refl }) os ps in
+      let carries : Carries a xs b → Carries b ys c
+      → Carries a (xs ++ ys) c = search (arith, append_assoc, until_append) in
+      record {
+        carries = carries one.carries two.carries;
+        plays = search (arith, map-append, append_assoc, until_append);
+        receipts = grind (arith, map-append, append_assoc, receipts);
+        offers = grind (arith, map-append, append_assoc, offers);
+      };
+  request = λ old new message outcome heard. notes_answer (request_answer heard);
+  reply = grind (arith, common_steps);
+  slot = grind (arith, common_steps);
+  finish = λ halt s new finishing. notes_finished finishing (grind arith);
+  bytes = grind (arith, common_steps);
+  failed = grind (arith, common_steps);
+  lost = grind (arith, common_steps);
+  close = λ halt last closed closes rest. notes_finished closes (grind arith);
+}
+
+module _ {films : List Stored} {settings : Settings} {words : List ℕ} {doings : Activity} {report : ConnReport}
+    (done : HasDone films settings words doings report) where
+  notes_all : Notes (first_stage films settings words).session (all_calls done) done.closed
+  notes_all = doings_kept done notes_kept
+
+  pub plays_noted : report.plays.items ≡ notes_of (all_calls done)
+  plays_noted =
+      let closed = closed_none (closes_as (open_of done.last.session) doings.halt done.closes) refl in
+      let on = notes_all.carries.on [] in
+      cc (done.report_is.plays, append-nil done.closed.plays, closed, on, until_none (all_calls done))
+
+  pub entries_noted : map noted_play report.plays.items ≡ placed_plays (entries_in (doings_outcomes doings))
+  entries_noted = cc (
+    plays_noted,
+    until_none (all_calls done),
+    notes_all.plays [],
+    append-nil (all_calls done),
+    append-nil (map noted_play (notes_of (all_calls done))),
+    turns_told done,
+  )
+
+  pub receipts_told : report.receipts.items ≡ receipts_in (doings_outcomes doings)
+  receipts_told = done.report_is.receipts ∙ rw (turns_told done) at notes_all.receipts
+
+  pub offers_told : report.offers.items ≡ offers_in (doings_outcomes doings)
+  offers_told = done.report_is.offers ∙ rw (turns_told done) at notes_all.offers

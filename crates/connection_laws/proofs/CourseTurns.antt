@@ -1,18 +1,17 @@
 -- One induction over what a connection does, from its first event to its end, and the slots that it missed.
-use Rattle.std.proofs.Common.{◌≡◌, ℕ, ◌++◌, if◌then◌else◌, Bool, true, false, List, ◌∷◌, map, length, ap, refl, ◌∙◌}
-use Rattle.std.proofs.Common.{◌+◌, ◌&&◌, arith, []}
+use Rattle.std.proofs.Common.{◌≡◌, ℕ, ◌++◌, true, List, ◌∷◌, map, length, ap, refl, ◌∙◌, ◌+◌, arith, []}
+use Rattle.std.proofs.lemmas.Grind.{common_steps}
 use Rattle.std.proofs.lemmas.List.{map-append}
-use Rattle.connection_laws.proofs.Terms.{Stored, Settings, Nothing, can_reply, sent_reply, after_slot, after_play}
-use Rattle.connection_laws.proofs.Terms.{is_between, is_sending, is_taken, sent_due, sent_slot, stepped_in}
-use Rattle.connection_laws.proofs.Terms.{SessionState, open_of, awaited_answer, Ending, AtElement, InReply, Round, Runs}
+use Rattle.connection_laws.proofs.Terms.{Stored, Settings, Nothing, can_reply, sent_reply, after_slot, SessionState}
+use Rattle.connection_laws.proofs.Terms.{open_of, awaited_answer, Ending, AtElement, InReply, Round, Runs}
 use Rattle.connection_laws.proofs.Terms.{ending_outcomes, round_outcomes, rounds_outcomes, takings_outcomes}
 use Rattle.connection_laws.proofs.Terms.{HasFailedInSlot, Outcome, Unasked, Stage, ElementStep, Passed, Answered}
-use Rattle.connection_laws.proofs.Terms.{TakesAll, after_reply, HasHeard, ConnEnd, ConnReport, Activity, HasDone}
+use Rattle.connection_laws.proofs.Terms.{TakesAll, after_reply, HasHeard, ConnReport, Activity, HasDone}
 use Rattle.connection_laws.proofs.Terms.{doings_outcomes, first_stage, StationCall, outcome_of, station_call}
-use Rattle.session.specs.SlotSteps.{missed_between, start_in}
-use Rattle.conn.specs.EventSteps.{Overfull, InSlot, Ends, RunsAll}
+use Rattle.session.specs.SlotSteps.{start_in}
+use Rattle.conn.specs.EventSteps.{Overfull, InSlot, RunsAll}
 use Rattle.connection_laws.specs.Notes.{asking_at, ending_calls, round_calls, rounds_calls, taken_calls, station_calls}
-use Rattle.connection_laws.specs.Notes.{ending_missed, missed_by, missed_in, rounds_missed}
+use Rattle.connection_laws.specs.Notes.{ending_missed, missed_by, rounds_missed}
 use Rattle.connection_laws.proofs.CourseSteps.{Stands, course_stands, round_stands, first_stands}
 use Rattle.connection_laws.proofs.RequestEffects.{answered_after}
 use Rattle.connection_laws.proofs.CourseInduction.{follows_all}
@@ -20,7 +19,7 @@ use Rattle.session.proofs.StepInvariantLemmas.{nothing_of}
 use Rattle.conn.proofs.ReplyContents.{CourseEnd}
 use Rattle.connection_laws.proofs.StationAnswers.{closing, closes_as}
 use Rattle.session_laws.proofs.SlotCountLemmas.{missed_is}
-use Rattle.connection_laws.proofs.KeptParts.{LastingPart, finish_keeps, reply_keeps, request_keeps, takes_keep}
+use Rattle.connection_laws.proofs.KeptParts.{LastingPart, finish_keeps, request_keeps, takes_keep}
 use Rattle.conn.proofs.StationAnswers.{FinishesAs, ComesAs, BytesCame, SlotCame, comes_as}
 
 -- a relation between a session, what the station is asked and answers, and the session after it, which each doing of
@@ -42,16 +41,11 @@ pub record IsKeptByDoings (R : SessionState → List StationCall → SessionStat
       → last.awaited ≡ Nothing → R last (station_call last halt ∷ []) closed
 
 module _ {R : SessionState → List StationCall → SessionState → Type 0} (kept : IsKeptByDoings R) where
-  sent_if : (goes : Bool) (s : SessionState) → R s [] (if goes then sent_reply s else s)
-  sent_if goes s = grind arith
-
   came : {old opened : Stage} {round : Round} → ComesAs old round opened
       → R old.session (station_call (asking_at old.session round.event) round.halt ∷ []) opened.session
   came {old} BytesCame = kept.bytes old.session
   came {old} (SlotCame {slot = slot} {halt = halt} {new = new} finish) =
-      let s : SessionState = after_slot old.session slot in
-      kept.joins old.session s new [] (station_call s halt ∷ []) (kept.slot old.session slot)
-      (kept.finish halt s new finish)
+      kept.joins _ _ _ _ _ (kept.slot old.session slot) (kept.finish halt (after_slot old.session slot) new finish)
 
   still : (old new : Stage) → new ≡ old → R old.session [] new.session
   still old new is = rw is (kept.none old.session)
@@ -64,29 +58,21 @@ module _ {R : SessionState → List StationCall → SessionState → Type 0} (ke
   taken old new (Answered message outcome parts ∷ takings) takes =
       let replied = takes.1.0 in
       let s : SessionState = replied.answered in
-      let turn = station_call replied.heard.asking outcome in
-      let one : R old.session (turn ∷ []) (after_reply s) =
-      kept.joins old.session s (after_reply s) (turn ∷ []) [] (kept.request old.session s message outcome replied.heard)
-      (sent_if (can_reply s) s) in
-      kept.joins old.session takes.0.session new.session (turn ∷ []) (taken_calls takes.0 takings new takes.1.1)
-      (rw replied.new_is one)
+      let one : R old.session (station_call replied.heard.asking outcome ∷ []) (after_reply s) =
+      kept.joins _ s _ _ [] (kept.request old.session s message outcome replied.heard) (grind (arith, can_reply s)) in
+      kept.joins _ takes.0.session _ (station_call replied.heard.asking outcome ∷ []) _ (rw replied.new_is one)
       (taken takes.0 new takings takes.1.1)
 
   round_kept : (old new : Stage) (round : Round) (runs : Runs old round new)
       → R old.session (round_calls old round new runs) new.session
   round_kept old new round runs =
-      kept.joins old.session runs.opened.session new.session
-      (station_call (asking_at old.session round.event) round.halt ∷ [])
-      (taken_calls runs.opened round.takings new runs.takes)
-      (came (comes_as round runs.comes)) (taken runs.opened new round.takings runs.takes)
+      kept.joins _ _ _ _ _ (came (comes_as round runs.comes)) (taken runs.opened new round.takings runs.takes)
 
   rounds_kept : (old new : Stage) (rounds : List Round) (runs : RunsAll old rounds new)
       → R old.session (rounds_calls old rounds new runs) new.session
   rounds_kept old new [] runs = still old new runs
   rounds_kept old new (round ∷ rounds) runs =
-      kept.joins old.session runs.0.session new.session (round_calls old round runs.0 runs.1.0)
-      (rounds_calls runs.0 rounds new runs.1.2) (round_kept old runs.0 round runs.1.0)
-      (rounds_kept runs.0 new rounds runs.1.2)
+      kept.joins _ _ _ _ _ (round_kept old runs.0 round runs.1.0) (rounds_kept runs.0 new rounds runs.1.2)
 
   ending_kept : (old : Stage) (ending : Ending) (ended : CourseEnd old ending)
       → R old.session (ending_calls old ended.count ending ended.end ended.new ended.ends) ended.new.session
@@ -96,19 +82,13 @@ module _ {R : SessionState → List StationCall → SessionState → Type 0} (ke
   ending_kept old (InReply round message outcome front) ended =
       let e = ended.ends.1 in
       let s : SessionState = e.fails.answered in
-      let turn = station_call e.fails.heard.asking outcome in
-      let last : R e.mid.session (turn ∷ []) (record s { lost = true }) =
-      kept.joins e.mid.session s (record s { lost = true }) (turn ∷ []) []
-      (kept.request e.mid.session s message outcome e.fails.heard) (kept.lost s) in
-      kept.joins old.session e.mid.session ended.new.session (round_calls old round e.mid e.runs) (turn ∷ [])
-      (round_kept old e.mid round e.runs)
-      (rw e.fails.new_is last)
+      let last : R e.mid.session (station_call e.fails.heard.asking outcome ∷ []) (record s { lost = true }) =
+      kept.joins _ _ _ _ _ (kept.request e.mid.session s message outcome e.fails.heard) (kept.lost s) in
+      kept.joins _ e.mid.session _ _ (station_call e.fails.heard.asking outcome ∷ [])
+      (round_kept old e.mid round e.runs) (rw e.fails.new_is last)
   ending_kept old _ ended = still old ended.new ended.ends.1
 
 -- ---- between doings nothing is awaited
-stands_all : (old new : Stage) (rounds : List Round) → RunsAll old rounds new → Stands old.session → Stands new.session
-stands_all old new rounds runs = course_stands old new rounds (follows_all old new rounds runs)
-
 pub ending_rest : {old : Stage} (ending : Ending) (ended : CourseEnd old ending) → Stands old.session →
     ended.new.session.awaited ≡ Nothing
 ending_rest (Overfull bytes) ended stands = cc (ended.ends.3, stands.rest)
@@ -125,8 +105,8 @@ takes_outcomes : (old new : Stage) (takings : List ElementStep) (takes : TakesAl
     → map outcome_of (taken_calls old takings new takes) ≡ takings_outcomes takings
 takes_outcomes old new [] takes = refl
 takes_outcomes old new (Passed n ∷ takings) takes = takes_outcomes takes.0 new takings takes.1.1
-takes_outcomes old new (Answered message outcome parts ∷ takings) takes =
-    ap (λ os. outcome ∷ os) (takes_outcomes takes.0 new takings takes.1.1)
+takes_outcomes old new (Answered message outcome parts ∷ takings) takes = rw
+    (takes_outcomes takes.0 new takings takes.1.1)
 
 round_outcomes_are : (old new : Stage) (round : Round) (runs : Runs old round new)
     → map outcome_of (round_calls old round new runs) ≡ round_outcomes round
@@ -135,21 +115,15 @@ round_outcomes_are old new round runs = rw (takes_outcomes runs.opened new round
 rounds_outcomes_are : (old new : Stage) (rounds : List Round) (runs : RunsAll old rounds new)
     → map outcome_of (rounds_calls old rounds new runs) ≡ rounds_outcomes rounds
 rounds_outcomes_are old new [] runs = refl
-rounds_outcomes_are old new (round ∷ rounds) runs =
-    grind (
-      arith,
-      map-append,
-      round_outcomes_are old runs.0 round runs.1.0,
-      rounds_outcomes_are runs.0 new rounds runs.1.2,
-    )
+rounds_outcomes_are old new (round ∷ rounds) runs = search
+    (arith, round_outcomes_are old runs.0 round runs.1.0, rounds_outcomes_are runs.0 new rounds runs.1.2, map-append)
 
-ending_outcomes_are : (old new : Stage) (count : ℕ) (ending : Ending) (end : ConnEnd)
-    (ends : Ends old count ending end new)
-    → map outcome_of (ending_calls old count ending end new ends) ≡ ending_outcomes ending
-ending_outcomes_are old new count (AtElement round) end ends = round_outcomes_are old new round ends.0
-ending_outcomes_are old new count (InReply round message outcome front) end ends =
-    grind (arith, map-append, round_outcomes_are old ends.1.mid round ends.1.runs)
-ending_outcomes_are old new count _ end ends = refl
+ending_outcomes_are : {old : Stage} (ending : Ending) (ended : CourseEnd old ending)
+    → map outcome_of (ending_calls old ended.count ending ended.end ended.new ended.ends) ≡ ending_outcomes ending
+ending_outcomes_are {old} (AtElement round) ended = round_outcomes_are old ended.new round ended.ends.0
+ending_outcomes_are {old} (InReply round message outcome front) ended =
+    grind (arith, map-append, round_outcomes_are old ended.ends.1.mid round ended.ends.1.runs)
+ending_outcomes_are _ ended = refl
 
 -- ---- all that a connection did, up to its report
 module _ {films : List Stored} {settings : Settings} {words : List ℕ} {doings : Activity} {report : ConnReport}
@@ -157,55 +131,34 @@ module _ {films : List Stored} {settings : Settings} {words : List ℕ} {doings 
   abbrev course_end : CourseEnd done.mid doings.ending
   course_end = record { count = length doings.rounds; end = report.end; new = done.last; ends = done.ends }
 
-  -- nothing is awaited as it ends
-  pub last_rest : done.last.session.awaited ≡ Nothing
-  last_rest =
-      ending_rest doings.ending course_end
-      (stands_all (first_stage films settings words) done.mid doings.rounds done.runs
-      (first_stands films settings words))
-
   abbrev pub all_calls : List StationCall
   all_calls = station_calls films settings words doings report done
-
-  abbrev heard_calls : List StationCall
-  heard_calls = rounds_calls (first_stage films settings words) doings.rounds done.mid done.runs
-
-  abbrev ended_calls : List StationCall
-  ended_calls = ending_calls done.mid (length doings.rounds) doings.ending report.end done.last done.ends
 
   pub doings_kept : {R : SessionState → List StationCall → SessionState → Type 0} → IsKeptByDoings R
       → R (first_stage films settings words).session all_calls done.closed
   doings_kept {R} kept =
       let first : Stage = first_stage films settings words in
       let last : SessionState = done.last.session in
-      kept.joins first.session last done.closed (heard_calls ++ ended_calls) (station_call last doings.halt ∷ [])
-      (kept.joins first.session done.mid.session last heard_calls ended_calls
-      (rounds_kept kept first done.mid doings.rounds done.runs)
+      let follows = follows_all first done.mid doings.rounds done.runs in
+      let stands = course_stands first done.mid doings.rounds follows (first_stands films settings words) in
+      kept.joins _ _ _ _ _ (kept.joins _ _ _ _ _ (rounds_kept kept first done.mid doings.rounds done.runs)
       (ending_kept kept done.mid doings.ending course_end))
-      (kept.close doings.halt last done.closed (closes_as (open_of last) doings.halt done.closes) last_rest)
+      (kept.close doings.halt last done.closed (closes_as (open_of last) doings.halt done.closes)
+      (ending_rest doings.ending course_end stands))
 
   pub turns_told : map outcome_of all_calls ≡ doings_outcomes doings
-  turns_told = search (map-append, station_call, rounds_outcomes_are, first_stage, ending_outcomes_are)
+  turns_told = search (map-append, rounds_outcomes_are, ending_outcomes_are doings.ending course_end)
 
 -- ---- slots
-slotted_if : (old : SessionState) (slot : ℕ) (taken sending : Bool)
-    → (if taken then (if sending then after_play (sent_slot old slot) else record old { heard = slot }) else old).late
-    ≡ old.late + (if taken && sending then missed_between old.heard (start_in old.state) slot else 0)
-slotted_if old slot taken sending = grind arith
-
-slotted_late : (old : SessionState) (slot : ℕ) → (after_slot old slot).late ≡ old.late + missed_in old slot
-slotted_late old slot = grind (arith, missed_is, slotted_if, is_taken, is_sending)
-
 comes_late : {old opened : Stage} {round : Round} → ComesAs old round opened
     → opened.session.late ≡ old.session.late + missed_by old.session round.event
 comes_late BytesCame = omega arith
-comes_late {old} (SlotCame {slot = slot} finish) = grind (arith, finish_keeps finish, slotted_late old.session slot)
+comes_late {old} (SlotCame {slot = slot} finish) = grind (arith, common_steps, missed_is, finish_keeps finish)
 
 round_late : (old new : Stage) (round : Round) → Runs old round new
     → new.session.late ≡ old.session.late + missed_by old.session round.event
-round_late old new round runs =
-    ap (λ (part : LastingPart). part.late) (takes_keep runs.opened new round.takings runs.takes)
-    ∙ comes_late (comes_as round runs.comes)
+round_late old new round runs = search
+    (arith, takes_keep runs.opened new round.takings runs.takes, comes_late (comes_as round runs.comes))
 
 rounds_late : (old new : Stage) (rounds : List Round) (runs : RunsAll old rounds new)
     → new.session.late ≡ old.session.late + rounds_missed old rounds new runs
@@ -214,30 +167,23 @@ rounds_late old new (round ∷ rounds) runs =
     omega (arith, rounds_late runs.0 new rounds runs.1.2, round_late old runs.0 round runs.1.0)
 
 -- ---- ends
-ending_late : (old new : Stage) (count : ℕ) (ending : Ending) (end : ConnEnd) → Ends old count ending end new
-    → new.session.late ≡ old.session.late + ending_missed old.session ending
-ending_late old new count (Overfull bytes) end ends = ap (λ (s : Stage). s.session.late) ends.3 ∙ omega arith
-ending_late old new count (AtElement round) end ends = round_late old new round ends.0
-ending_late old new count (InSlot slot front) end ends =
-    let failed = ends.1 in
-    rw (failed.taken, failed.sending, ← (missed_is old.session.heard (start_in old.session.state) slot)) failed.late
-ending_late old new count (InReply round message outcome front) end ends =
-    let e = ends.1 in
+ending_late : {old : Stage} (ending : Ending) (ended : CourseEnd old ending)
+    → ended.new.session.late ≡ old.session.late + ending_missed old.session ending
+ending_late (Overfull bytes) ended = ap (λ (s : Stage). s.session.late) ended.ends.3 ∙ omega arith
+ending_late {old} (AtElement round) ended = round_late old ended.new round ended.ends.0
+ending_late {old} (InSlot slot front) ended = search
+    (arith, missed_is old.session.heard (start_in old.session.state) slot)
+ending_late {old} (InReply round message outcome front) ended =
+    let e = ended.ends.1 in
     ap (λ (s : Stage). s.session.late) e.fails.new_is
     ∙ ap (λ (part : LastingPart). part.late) (request_keeps e.fails.heard) ∙ round_late old e.mid round e.runs
-ending_late old new count _ end ends = ap (λ (s : Stage). s.session.late) ends.1 ∙ omega arith
+ending_late _ ended = ap (λ (s : Stage). s.session.late) ended.ends.1 ∙ omega arith
 
 pub late_is : {films : List Stored} {settings : Settings} {words : List ℕ} {doings : Activity} {report : ConnReport}
     (done : HasDone films settings words doings report) → report.late
     ≡ rounds_missed (first_stage films settings words) doings.rounds done.mid done.runs
     + ending_missed done.mid.session doings.ending
-late_is {films} {settings} {words} {doings} {report} done =
-    grind (
-      arith,
-      finish_keeps (closes_as (open_of done.last.session) doings.halt done.closes),
-      closes_as (open_of done.last.session) doings.halt done.closes,
-      open_of done.last.session,
-      ending_late done.mid done.last (length doings.rounds) doings.ending report.end done.ends,
-      rounds_late (first_stage films settings words) done.mid doings.rounds done.runs,
-      first_stage films settings words,
-    )
+late_is {films} {settings} {words} {doings} done =
+    let closed = finish_keeps (closes_as (open_of done.last.session) doings.halt done.closes) in
+    let late = rounds_late (first_stage films settings words) done.mid doings.rounds done.runs in
+    grind (arith, closed, ending_late doings.ending (course_end done), late)

@@ -1,26 +1,25 @@
-use Rattle.std.proofs.lemmas.Grind.{common_steps}
 -- The elements of a connection's input that are processed, one after another: each byte CR or LF,
 -- each block, each request.
+use Rattle.std.proofs.lemmas.Grind.{common_steps}
 use Rattle.std.proofs.Common.{◌≡◌, ◌⊎◌, ℕ, zero, suc, ◌<◌, ◌≤◌, ◌++◌, true, false, List, [], ◌∷◌, Ok, Err, length, drop}
-use Rattle.std.proofs.Common.{get_or, refl, ap, sym, ◌∙◌, subst, inl, inr, arith, ap₂}
-use Rattle.std.proofs.lemmas.Bool.{both_ways}
-use Rattle.std.proofs.lemmas.List.{append-nil, append_assoc, take-append-le, drop-append-le, length-append}
-use Rattle.std.proofs.lemmas.List.{get_or_append_left}
-use Rattle.connection_laws.proofs.Terms.{is_line_end, IsFirst, StartsMessage, IsElementLength, LineEnd, WholeBlock}
-use Rattle.connection_laws.proofs.Terms.{WholeMessage, More, Request, Stored, Hears, AreFilms, SessionState, IsStopped}
-use Rattle.connection_laws.proofs.Terms.{takings_bytes, takings_outcomes, Answered, IsAskAnswered, IsReplied, Outcome}
-use Rattle.connection_laws.proofs.Terms.{SentPart, Passed, Stage, ElementStep, TakesAll, after_reply, parts_bytes}
-use Rattle.connection_laws.proofs.Terms.{reply_parts, stage, ConnEnd, TornDown, HeadTooLong, BodyTooLong}
-use Rattle.connection_laws.proofs.Terms.{AllLackMemoryAlike, AreSameAnswers, HeardRequest, IsDrained, LackMemoryAlike}
-use Rattle.connection_laws.proofs.Terms.{answer_in, answers_in, heard_requests_taken, IoEvent}
+use Rattle.std.proofs.Common.{get_or, refl, ap, sym, ◌∙◌, subst, inl, inr, arith}
+use Rattle.std.proofs.lemmas.List.{append_assoc, take-append-le, drop-append-le}
+use Rattle.connection_laws.proofs.Terms.{is_line_end, StartsMessage, IsElementLength, WholeMessage, More, Hears}
+use Rattle.connection_laws.proofs.Terms.{AreFilms, SessionState, IsStopped, takings_bytes, takings_outcomes, Answered}
+use Rattle.connection_laws.proofs.Terms.{IsAskAnswered, IsReplied, Outcome, SentPart, Passed, Stage, ElementStep}
+use Rattle.connection_laws.proofs.Terms.{TakesAll, after_reply, parts_bytes, reply_parts, stage, ConnEnd, TornDown}
+use Rattle.connection_laws.proofs.Terms.{HeadTooLong, BodyTooLong, AllLackMemoryAlike, AreSameAnswers, HeardRequest}
+use Rattle.connection_laws.proofs.Terms.{IsDrained, LackMemoryAlike, answer_in, answers_in, heard_requests_taken}
+use Rattle.connection_laws.proofs.Terms.{IoEvent}
 use Rattle.interleave.specs.Elements.{StartsBlock, block_length}
 use Rattle.interleave.specs.declared.elements.DemuxFault.TheVariants.{HeadTooLong as LongHead, BodyTooLong as LongBody}
-use Rattle.interleave.proofs.ElementStability.{StartsBlock-append, block_length-append, whole_stays}
-use Rattle.interleave.proofs.StreamElements.{element_once, tells_none}
-use Rattle.interleave.proofs.ElementUniqueness.{clash_block_request, total_once}
+use Rattle.interleave.proofs.ElementStability.{whole_stays}
+use Rattle.interleave.proofs.StreamElements.{tells_none}
+use Rattle.interleave.proofs.ElementUniqueness.{total_once}
 use Rattle.session.proofs.RequestEffectLemmas.{hears_ground}
 use Rattle.conn.proofs.CourseSteps.{stage_is}
 use Rattle.conn.specs.InputSteps.{IsNext, IsPassed}
+use Rattle.connection_laws.specs.Requests.{AwaitsReply}
 use Rattle.connection_laws.proofs.KeptParts.{answered_names, replied_names}
 use Rattle.connection_laws.proofs.UniqueResults.{AnswersAlike, answers_same, hears_same}
 
@@ -38,9 +37,6 @@ pub data Element : Type 0 where
 pub data IsOver (input : List ℕ) (n : ℕ) : Type 0 where
   AnEnd : n ≡ 1 → 0 < length input → is_line_end (get_or input 0 0) ≡ true → IsOver input n
   ABlock : StartsBlock input → 4 ≤ length input → n ≡ block_length input → n ≤ length input → IsOver input n
-
-pub over_element : (input : List ℕ) (n : ℕ) → IsOver input n → IsElementLength input n
-over_element input n given = grind arith
 
 over_no_request : (input : List ℕ) (n : ℕ) → IsOver input n → StartsMessage input → ⊥
 over_no_request input n given given' = grind arith
@@ -84,9 +80,6 @@ joined a b = record {
   hearings = a.hearings ++ b.hearings;
 }
 
-pub joined_assoc : (a b c : Exchange) → joined (joined a b) c ≡ joined a (joined b c)
-joined_assoc a b c = rw (append_assoc, append_assoc, append_assoc, append_assoc)
-
 -- what is sent as elements are processed, what the station answers, and the requests that are received
 abbrev turn_exchange : StationCall → Exchange
 turn_exchange turn = record {
@@ -119,29 +112,16 @@ way_then {a} one two = record { elements = one.elements ++ two.elements; goes = 
 pub join_exchange : (xs ys : List Element) → exchange_of (xs ++ ys) ≡ joined (exchange_of xs) (exchange_of ys)
 join_exchange [] ys = refl
 join_exchange (Over n ∷ xs) ys = join_exchange xs ys
-join_exchange (RequestElement turn ∷ xs) ys =
-    rw (join_exchange xs ys, joined_assoc (turn_exchange turn) (exchange_of xs) (exchange_of ys))
+join_exchange (RequestElement turn ∷ xs) ys = rw (join_exchange xs ys) (simp append_assoc)
 
 abbrev pub longer : Stage → List ℕ → Stage
 longer old more = stage old.session (old.input ++ more)
 
-shorter : (old : Stage) (session : SessionState) (more : List ℕ) (n : ℕ) → n ≤ length old.input
-    → longer (stage session (drop n old.input)) more ≡ stage session (drop n (old.input ++ more))
-shorter old session more n inside = cc (drop-append-le n old.input more inside)
-
-next_grows : (old : Stage) (message more : List ℕ) → IsNext old message → IsNext (longer old more) message
-next_grows old message more next = search (whole_stays, take-append-le)
-
 element_grows : (old new : Stage) (element : Element) (more : List ℕ) → Goes old element new
     → Goes (longer old more) element (longer new more)
 element_grows old new (Over n) more goes = grind (arith, common_steps)
-element_grows old new (RequestElement turn) more goes = record {
-  session_is = goes.session_is;
-  next = next_grows old turn.heard.message more goes.next;
-  hears = goes.hears;
-  answered = goes.answered;
-  new_is = rw (goes.new_is, shorter old (after_reply turn.answered) more (length turn.heard.message) goes.next.first.2);
-}
+element_grows old new (RequestElement turn) more goes = search
+    (drop-append-le (length turn.heard.message) old.input more goes.next.first.2, whole_stays, take-append-le)
 
 pub goes_grow : (old new : Stage) (elements : List Element) (more : List ℕ) → GoesAll old elements new
     → GoesAll (longer old more) elements (longer new more)
@@ -155,36 +135,27 @@ pub record Path (old new : Stage) (exchange : Exchange) : Type 0 where
   pub way : Way old new
   pub is : exchange_of way.elements ≡ exchange
 
-path_none : (s : Stage) → Path s s no_exchange
-path_none s = record { way = record { elements = []; goes = refl }; is = refl }
-
-path_then : {a b c : Stage} {one two : Exchange} → Path a b one → Path b c two → Path a c (joined one two)
-path_then path after = record {
-  way = way_then path.way after.way;
-  is = join_exchange path.way.elements after.way.elements ∙ ap₂ joined path.is after.is;
+over_first : {old mid new : Stage} {n : ℕ} {exchange : Exchange} → IsPassing old n mid → Path mid new exchange
+    → Path old new exchange
+over_first {mid = mid} {n = n} over path = record {
+  way = record { elements = Over n ∷ path.way.elements; goes = (mid, (over, path.way.goes)) };
+  is = path.is;
 }
 
-ends_over : (session : SessionState) (input : List ℕ) (n : ℕ) → session.torn ≡ false → n ≤ length input
-    → ((k : ℕ) → k < n → is_line_end (get_or input k 0) ≡ true)
-    → Path (stage session input) (stage session (drop n input)) no_exchange
-ends_over session input zero torn inside ends = path_none (stage session input)
-ends_over session [] (suc n) torn inside ends = let bad : ⊥ = omega (arith, inside) in absurd bad
-ends_over session (c ∷ cs) (suc n) torn inside ends =
-    let path = ends_over session cs n torn (omega (arith, inside)) (λ k below. ends (suc k) (omega (arith, below))) in
-    let over : IsPassing (stage session (c ∷ cs)) 1 (stage session cs) =
-    record { over = AnEnd refl (omega arith) (ends 0 (omega arith)); torn = torn; new_is = refl } in
-    let way = path.way in
-    record {
-      way = record { elements = Over 1 ∷ way.elements; goes = (stage session cs, (over, way.goes)) };
-      is = path.is;
-    }
+ends_over : {new : Stage} {exchange : Exchange} (session : SessionState) (input : List ℕ) (n : ℕ)
+    → session.torn ≡ false → n ≤ length input → ((k : ℕ) → k < n → is_line_end (get_or input k 0) ≡ true)
+    → Path (stage session (drop n input)) new exchange → Path (stage session input) new exchange
+ends_over session input zero torn inside ends path = path
+ends_over session [] (suc n) torn inside ends path = let bad : ⊥ = omega (arith, inside) in absurd bad
+ends_over session (c ∷ cs) (suc n) torn inside ends path =
+    over_first (record { over = AnEnd refl (omega arith) (ends 0 (omega arith)); torn = torn; new_is = refl })
+    (ends_over session cs n torn (omega (arith, inside)) (λ k below. ends (suc k) (omega (arith, below))) path)
 
-passed_over : (session : SessionState) (input : List ℕ) (n : ℕ) → IsPassed input n → session.torn ≡ false
-    → Path (stage session input) (stage session (drop n input)) no_exchange
-passed_over session input n (inl skip) torn = ends_over session input n torn skip.1.within skip.1.line_ends
-passed_over session input n (inr block) torn =
-    let over : IsPassing (stage session input) n (stage session (drop n input)) = grind arith in
-    record { way = record { elements = Over n ∷ []; goes = (stage session (drop n input), (over, refl)) }; is = refl }
+passed_over : {new : Stage} {exchange : Exchange} (session : SessionState) (input : List ℕ) (n : ℕ) → IsPassed input n
+    → session.torn ≡ false → Path (stage session (drop n input)) new exchange → Path (stage session input) new exchange
+passed_over session input n (inl skip) torn path = ends_over session input n torn skip.1.within skip.1.line_ends path
+passed_over session input n (inr block) torn path =
+    let over : IsPassing (stage session input) n (stage session (drop n input)) = grind arith in over_first over path
 
 -- a request that was processed, as it was received
 abbrev hearing : {old new : Stage} {message : List ℕ} {outcome : Outcome} {parts : List SentPart}
@@ -192,18 +163,18 @@ abbrev hearing : {old new : Stage} {message : List ℕ} {outcome : Outcome} {par
 hearing {old} {message = message} replied =
     record { session = old.session; message = message; ask = replied.heard.ask; asking = replied.heard.asking }
 
-path_taken : (old new : Stage) (message : List ℕ) (outcome : Outcome) (parts : List SentPart)
-    (replied : IsReplied old message outcome parts new) → Path old new (record {
+path_taken : {old mid new : Stage} {message : List ℕ} {outcome : Outcome} {parts : List SentPart} {later : Exchange}
+    (replied : IsReplied old message outcome parts mid) → Path mid new later → Path old new (joined (record {
       heard = [];
       bytes = parts_bytes parts;
       answers = answer_in outcome;
       hearings = hearing replied ∷ [];
-    })
-path_taken old new message outcome parts replied =
+    }) later)
+path_taken {old} {mid} {outcome = outcome} replied path =
     let turn : StationCall = record { heard = hearing replied; outcome = outcome; answered = replied.answered } in
-    let taken : IsTaken old turn new = assumption (replied, replied.heard) in
+    let taken : IsTaken old turn mid = assumption (replied, replied.heard) in
     record {
-      way = record { elements = RequestElement turn ∷ []; goes = (new, (taken, refl)) };
+      way = record { elements = RequestElement turn ∷ path.way.elements; goes = (mid, (taken, path.way.goes)) };
       is = grind (arith, common_steps);
     }
 
@@ -218,49 +189,56 @@ takings_exchange old takings new takes = record {
 
 pub path_of : (old new : Stage) (takings : List ElementStep) (takes : TakesAll old takings new)
     → Path old new (takings_exchange old takings new takes)
-path_of old new [] takes = rw takes (path_none old)
+path_of old new [] takes = rw takes (record { way = record { elements = []; goes = refl }; is = refl })
 path_of old new (Passed n ∷ takings) takes =
-    path_then (subst (λ s. Path old s no_exchange) (sym takes.1.0.2)
-    (passed_over old.session old.input n takes.1.0.0 takes.1.0.1)) (path_of takes.0 new takings takes.1.1)
+    let exchange = takings_exchange takes.0 takings new takes.1.1 in
+    passed_over old.session old.input n takes.1.0.0 takes.1.0.1
+    (subst (λ s. Path s new exchange) takes.1.0.2 (path_of takes.0 new takings takes.1.1))
 path_of old new (Answered message outcome parts ∷ takings) takes =
-    path_then (path_taken old takes.0 message outcome parts takes.1.0) (path_of takes.0 new takings takes.1.1)
+    path_taken takes.1.0 (path_of takes.0 new takings takes.1.1)
 
 -- ---- where nothing more can be processed
 
 first_element : (old new : Stage) (element : Element) → Goes old element new → (n : ℕ) × IsElementLength old.input n
-first_element old new (Over n) goes = (n, over_element old.input n goes.over)
+first_element old new (Over n) goes = (n, (grind arith))
 first_element old new (RequestElement turn) goes =
     (length turn.heard.message, WholeMessage goes.next.first.0 goes.next.first.1 goes.next.first.2)
 
 goes_on : (old new : Stage) (element : Element) → Goes old element new → old.session.torn ≡ false
 goes_on old new element given = grind arith
 
-idle_done : (old new : Stage) (element : Element)
-    → (IsFirst old.input (Ok More) ⊎ ((n : ℕ) × (IsFirst old.input (Ok (Request n)) × (old.session.waits ≡ true))))
-    → Goes old element new → ⊥
-idle_done old new element (inl more) goes =
-    let first = first_element old new element goes in tells_none old.input (Ok More) more first.0 first.1
-idle_done old new (Over m) (inr request) goes = over_no_request old.input m goes.over request.1.0.0
-idle_done old new (RequestElement turn) (inr request) goes = cc (request.1.1, goes.next.replied)
+-- what isn't processed isn't complete, or waits for a reply, or comes after TEARDOWN
+abbrev pub IsRest : Stage → Type 0
+IsRest stage = ((n : ℕ) → IsElementLength stage.input n → ⊥) ⊎ (AwaitsReply stage ⊎ (stage.session.torn ≡ true))
 
-stopped_done : (old new : Stage) (element : Element) (end : ConnEnd) → IsStopped end old → Goes old element new → ⊥
-stopped_done old new element TornDown stopped goes = cc (stopped, goes_on old new element goes)
-stopped_done old new element HeadTooLong stopped goes = grind arith
-stopped_done old new element BodyTooLong stopped goes =
-    let first = first_element old new element goes in tells_none old.input (Err LongBody) stopped.1 first.0 first.1
-stopped_done old new element _ stopped goes = absurd stopped
+stopped_rest : (stage : Stage) (end : ConnEnd) → IsStopped end stage → IsRest stage
+stopped_rest stage TornDown stopped = inr (inr stopped)
+stopped_rest stage HeadTooLong stopped = inl (tells_none stage.input (Err LongHead) stopped.1)
+stopped_rest stage BodyTooLong stopped = inl (tells_none stage.input (Err LongBody) stopped.1)
+stopped_rest stage _ stopped = absurd stopped
 
-done_goes : (old new : Stage) (element : Element) → IsDrained old → Goes old element new → ⊥
-done_goes old new element (inl idle) goes = idle_done old new element idle.waits goes
-done_goes old new element (inr stopped) goes = stopped_done old new element stopped.0 stopped.1 goes
+pub drained_rest : (stage : Stage) → IsDrained stage → IsRest stage
+drained_rest stage (inl idle) = elim idle.waits [
+  | inl more ↦ inl (tells_none stage.input (Ok More) more)
+  | inr request ↦ inr (inl (record { length = request.0; first = request.1.0; waits = request.1.1 }))
+]
+drained_rest stage (inr stopped) = stopped_rest stage stopped.0 stopped.1
+
+rest_goes : (old new : Stage) (element : Element) → IsRest old → Goes old element new → ⊥
+rest_goes old new element (inl none) goes = let first = first_element old new element goes in none first.0 first.1
+rest_goes old new (Over m) (inr (inl awaits)) goes = over_no_request old.input m goes.over awaits.first.0
+rest_goes old new (RequestElement turn) (inr (inl awaits)) goes = cc (awaits.waits, goes.next.replied)
+rest_goes old new element (inr (inr torn)) goes = cc (torn, goes_on old new element goes)
 
 -- ---- two paths from one place
 
 taken_films : (old new : Stage) (turn : StationCall) → IsTaken old turn new → new.session.films ≡ old.session.films
-taken_films old new turn taken =
-    ap (λ (s : Stage). s.session.films) taken.new_is ∙ ap (λ (n : List Stored × List ℕ). n.0)
-    (replied_names turn.answered ∙ answered_names heard.asking heard.ask turn.outcome turn.answered taken.answered)
-    ∙ (hears_ground old.session heard.asking heard.message heard.ask taken.hears).films
+taken_films old new turn taken = search (
+  arith,
+  replied_names turn.answered,
+  answered_names heard.asking heard.ask turn.outcome turn.answered taken.answered,
+  hears_ground old.session heard.asking heard.message heard.ask taken.hears,
+)
   where
     open turn use {heard}
 
@@ -271,35 +249,23 @@ goes_films old new (Over n ∷ elements) goes = rw (goes_films goes.0 new elemen
 goes_films old new (RequestElement turn ∷ elements) goes =
     goes_films goes.0 new elements goes.1.1 ∙ taken_films old goes.0 turn goes.1.0
 
-message_same : (old : Stage) (one other : List ℕ) → IsNext old one → IsNext old other → other ≡ one
-message_same old one other is also =
-    cc (also.message_is, total_once old.input (length other) (length one) also.first.1 is.first.1, is.message_is)
-
 -- two requests were processed from one stage, and memory ran out for both or for neither
-record TakenTwice (old : Stage) (turn again : StationCall) : Type 0 where
-  one : Stage
-  other : Stage
-  films : AreFilms old.session.films
-  taken : IsTaken old turn one
-  also : IsTaken old again other
-  alike : LackMemoryAlike turn.heard again.heard
-
-turns_same : {old : Stage} {turn again : StationCall} (given : AnswersAlike turn.outcome again.outcome)
-    (twice : TakenTwice old turn again) →
-    (twice.other ≡ twice.one) × (parts_bytes (reply_parts again.answered) ≡ parts_bytes (reply_parts turn.answered))
+turns_same : {old one other : Stage} {turn again : StationCall} (given : AnswersAlike turn.outcome again.outcome)
+    → AreFilms old.session.films → IsTaken old turn one → IsTaken old again other
+    → LackMemoryAlike turn.heard again.heard → (other ≡ one)
+    × (parts_bytes (reply_parts again.answered) ≡ parts_bytes (reply_parts turn.answered))
     × AreSameAnswers given.ones given.others
-turns_same {old} {turn} {again} given twice =
+turns_same {old} {turn = turn} {again = again} given films taken also alike =
     let h = turn.heard in
     let g = again.heard in
-    let message : g.message ≡ h.message = message_same old h.message g.message taken.next also.next in
-    let same = hears_same {one = h} {other = g} (record {
-      films = rw taken.session_is films;
-      session = also.session_is ∙ sym taken.session_is;
-      message = message;
-      hears = rw taken.session_is taken.hears;
-      also = rw also.session_is also.hears;
-      alike = alike;
-    }) in
+    let message : g.message ≡ h.message =
+    let is = taken.next in let again = also.next in
+    cc (
+      again.message_is,
+      total_once old.input (length g.message) (length h.message) again.first.1 is.first.1,
+      is.message_is,
+    ) in
+    let same = hears_same {one = h} {other = g} (search arith) in
     let answered : IsAskAnswered h.asking h.ask again.outcome again.answered = grind arith in
     let both = answers_same h.asking h.ask given (taken.answered, answered) in (
       also.new_is ∙ stage_is (ap after_reply both.0) (ap (λ (m : List ℕ). drop (length m) old.input) message)
@@ -307,8 +273,6 @@ turns_same {old} {turn} {again} given twice =
       ap (λ s. parts_bytes (reply_parts s)) both.0,
       both.1,
     )
-  where
-    open twice use {films, taken, also, alike}
 
 -- these elements lead from a stage to one at which nothing more can be processed
 pub record PathDone (old : Stage) (xs : List Element) : Type 0 where
@@ -327,55 +291,38 @@ path_moved {xs = xs} same way =
     record { last = way.last; goes = subst (λ s. GoesAll s xs way.last) same way.goes; done = way.done }
 
 -- the station's answers are the same, and memory runs out alike
-pub record AreAlike (one other : Exchange) : Type 0 where
-  pub answers : AreSameAnswers one.answers other.answers
-  pub memory : AllLackMemoryAlike one.hearings other.hearings
+abbrev pub AreAlike : Exchange → Exchange → Type 0
+AreAlike one other = AreSameAnswers one.answers other.answers × AllLackMemoryAlike one.hearings other.hearings
 
--- two paths end at one stage and send the same, and what comes after them is alike
-pub record SameEnds (last again : Stage) (sent resent : List ℕ) (one other : Exchange) : Type 0 where
-  pub last_is : again ≡ last
-  pub bytes : resent ≡ sent
-  pub later : AreAlike one other
+overs_same : {old one other : Stage} {n m : ℕ} → IsPassing old n one × IsPassing old m other → other ≡ one
+overs_same {old} {n = n} {m = m} both = grind arith
 
-passing_films : {old new : Stage} {n : ℕ} → IsPassing old n new → AreFilms old.session.films
-    → AreFilms new.session.films
-passing_films passing films = rw (ap (λ (s : Stage). s.session.films) passing.new_is) films
-
-overs_same : {old one other : Stage} {n m : ℕ} → IsPassing old n one → IsPassing old m other → other ≡ one
-overs_same {old} {n = n} {m = m} is also = grind arith
-
+-- two paths from one place end at one stage and send the same, and what comes after them is alike
 pub ends_same : {old : Stage} {xs ys : List Element} (one other : Exchange) → AreFilms old.session.films
     → (way : PathDone old xs) (also : PathDone old ys)
     → AreAlike (joined (exchange_of xs) one) (joined (exchange_of ys) other)
-    → SameEnds way.last also.last (exchange_of xs).bytes (exchange_of ys).bytes one other
+    → (also.last ≡ way.last) × ((exchange_of ys).bytes ≡ (exchange_of xs).bytes) × AreAlike one other
 ends_same {xs = []} {ys = []} one other films way also alike = grind arith
 ends_same {old} {xs = []} {ys = y ∷ ys} one other films way also alike =
-    absurd (done_goes old also.goes.0 y (subst IsDrained way.goes way.done) also.goes.1.0)
+    absurd (rest_goes old also.goes.0 y (drained_rest old (subst IsDrained way.goes way.done)) also.goes.1.0)
 ends_same {old} {xs = x ∷ xs} {ys = []} one other films way also alike =
-    absurd (done_goes old way.goes.0 x (subst IsDrained also.goes also.done) way.goes.1.0)
+    absurd (rest_goes old way.goes.0 x (drained_rest old (subst IsDrained also.goes also.done)) way.goes.1.0)
 ends_same {xs = Over n ∷ xs} {ys = Over m ∷ ys} one other films way also alike =
-    ends_same {xs = xs} {ys = ys} one other (passing_films way.goes.1.0 films) (path_rest way)
-    (path_moved (overs_same way.goes.1.0 also.goes.1.0) (path_rest also)) alike
+    ends_same {xs = xs} {ys = ys} one other (rw way.goes.1.0.new_is films) (path_rest way)
+    (path_moved (overs_same (way.goes.1.0, also.goes.1.0)) (path_rest also)) alike
 ends_same {old} {xs = Over n ∷ xs} {ys = RequestElement turn ∷ ys} one other films way also alike =
     absurd (over_no_request old.input n way.goes.1.0.over also.goes.1.0.next.first.0)
 ends_same {old} {xs = RequestElement turn ∷ xs} {ys = Over m ∷ ys} one other films way also alike =
     absurd (over_no_request old.input m also.goes.1.0.over way.goes.1.0.next.first.0)
 ends_same {old} {xs = RequestElement turn ∷ xs} {ys = RequestElement again ∷ ys} one other films way also alike =
     let taken = way.goes.1.0 in
-    let both = turns_same {old = old} {turn = turn} {again = again} (record {
-      ones = (exchange_of xs).answers ++ one.answers;
-      others = (exchange_of ys).answers ++ other.answers;
-      same = rw (← (append_assoc (answer_in turn.outcome) (exchange_of xs).answers one.answers))
-          (rw (← (append_assoc (answer_in again.outcome) (exchange_of ys).answers other.answers)) alike.answers);
-    }) (record {
-      one = way.goes.0;
-      other = also.goes.0;
-      films = films;
-      taken = taken;
-      also = also.goes.1.0;
-      alike = alike.memory.0;
-    }) in
+    let both = turns_same (search (
+      arith,
+      append_assoc (answer_in turn.outcome) (exchange_of xs).answers one.answers,
+      append_assoc (answer_in again.outcome) (exchange_of ys).answers other.answers,
+      append_assoc,
+    )) films taken also.goes.1.0 alike.1.0 in
     let kept : AreFilms way.goes.0.session.films = subst AreFilms (sym (taken_films old way.goes.0 turn taken)) films in
     let rest = ends_same {xs = xs} {ys = ys} one other kept (path_rest way) (path_moved both.0 (path_rest also))
-    (record { answers = both.2; memory = alike.memory.1 }) in
-    record { last_is = rest.last_is; bytes = rw (both.1, rest.bytes); later = rest.later }
+    (both.2, alike.1.1) in
+    (rest.0, rw (both.1, rest.1), rest.2)

@@ -1,12 +1,11 @@
-use Rattle.std.proofs.lemmas.Grind.{common_steps}
 -- A stream of complete elements, split at any place.
+use Rattle.std.proofs.lemmas.Grind.{common_steps}
 use Rattle.std.proofs.Common.{◌≡◌, ℕ, ◌+◌, ◌-◌, ◌<◌, List, [], ◌∷◌, ◌++◌, length, take, drop, refl, sym, ◌∙◌, arith}
 use Rattle.std.proofs.Common.{inl, inr}
 use Rattle.std.proofs.lemmas.Bool.{cases_lt}
-use Rattle.std.proofs.lemmas.List.{append-nil, length-take-le, take-append-le, take-append-drop, take_all}
-use Rattle.std.proofs.Math.Seq.{drop-append-add, take-append-add, take-nil}
-use Rattle.connection_laws.proofs.Terms.{count_ended, framed_bytes, AreInputElements, IsElementLength, LineEnd}
-use Rattle.connection_laws.proofs.Terms.{WholeBlock, WholeMessage}
+use Rattle.std.proofs.lemmas.List.{append-nil, length-take-le, take-append-le, take-append-drop}
+use Rattle.std.proofs.Math.Seq.{take-append-add, take-nil}
+use Rattle.connection_laws.proofs.Terms.{count_ended, framed_bytes, AreInputElements, IsElementLength}
 use Rattle.interleave.specs.Streams.{IsStream}
 use Rattle.interleave.proofs.StreamElements.{TwoCuts, cut_more, cuts_agree, element_once, element_stays, element_within}
 use Rattle.connection_laws.proofs.Lists.{Each}
@@ -25,11 +24,7 @@ no_element n given = grind arith
 
 stream_cons : (p t : List ℕ) (ps : List (List ℕ)) (r : List ℕ) → IsAlone p → IsStream t ps r
     → IsStream (p ++ t) (p ∷ ps) r
-stream_cons p t ps r alone stream =
-    let zero_ : length p ≡ length p + 0 = omega arith in
-    let front : p ≡ take (length p) (p ++ t) = grind (arith, common_steps) in
-    let after : t ≡ drop (length p) (p ++ t) = cc (drop-append-add p t 0, zero_) in
-    ((length p, (element_stays p t (length p) alone.whole, front, rw (← after) stream.0)), stream.1)
+stream_cons p t ps r alone stream = grind (arith, common_steps, element_stays p t (length p) alone.whole)
 
 stream_short : (p t : List ℕ) (c : ℕ) → IsAlone p → c < length p → IsStream (take c (p ++ t)) [] (take c p)
 stream_short p t c alone less =
@@ -54,10 +49,9 @@ cut_at (p ∷ ps) c alone =
           let one = at_less p ps c less in rw (one.0, one.1) (stream_short p (framed_bytes ps) c alone.0 less)
       | inr more ↦
           let d = c - length p in
-          let sum : c ≡ length p + d = omega (arith, more) in
           let one = at_more p ps c more in
-          let bytes : take c (p ++ framed_bytes ps) ≡ p ++ take d (framed_bytes ps) =
-          cc (sum, take-append-add p (framed_bytes ps) d) in
+          let bytes : take c (p ++ framed_bytes ps)
+          ≡ p ++ take d (framed_bytes ps) = search (arith, take-append-add p (framed_bytes ps) d) in
           rw (one.0, one.1, bytes)
           (stream_cons p (take d (framed_bytes ps)) (take (count_ended d ps) ps) (rest_at d ps) alone.0
           (cut_at ps d alone.1))

@@ -1,8 +1,6 @@
 -- What a client's history comes to, but for its slots: a sum that each moment adds to.
-use Rattle.std.proofs.Common.{◌≡◌, ℕ, ◌+◌, ◌<◌, ◌≤◌, ◌⊎◌, ◌==◌, ◌&&◌, Bool, true, false, not, nat_lt, if◌then◌else◌}
-use Rattle.std.proofs.Common.{List, [], ◌∷◌, ◌++◌, length, drop, get_or, unwrap_or, refl, sym, ◌∙◌, append_assoc, arith}
-use Rattle.std.proofs.Common.{inl, inr}
-use Rattle.std.proofs.lemmas.Bool.{cond-true, cond-false, ne_eqb}
+use Rattle.std.proofs.Common.{◌≡◌, ℕ, ◌+◌, ◌<◌, ◌≤◌, ◌⊎◌, ◌==◌, ◌&&◌, Bool, true, not, nat_lt, if◌then◌else◌, List, []}
+use Rattle.std.proofs.Common.{◌∷◌, ◌++◌, length, drop, get_or, unwrap_or, refl, sym, ◌∙◌, append_assoc, arith}
 use Rattle.std.proofs.lemmas.List.{append-nil, length-append}
 use Rattle.connection_laws.proofs.Terms.{framed_bytes, play_range, History, ClientEvent, Frame, Reply, Report, Slot}
 use Rattle.connection_laws.proofs.Terms.{end_ms, first_frame, frames, is_last, payloads, bytes_received, replies, sizes}
@@ -99,49 +97,25 @@ pub record IsSame (s t : Sum) : Type 0 where
   pub replies : t.replies ≡ s.replies
   pub end_ms : t.end_ms ≡ s.end_ms
 
--- a block is a frame or a report
-pub block_moved : {b : List ℕ} (ms : List ClientEvent) (s : Sum) (P : Sum → Type 0)
-    → (element_events b ≡ Frame b ∷ []) ⊎ (element_events b ≡ Report b ∷ []) → P (steps (step (Frame b) s) ms)
-    → P (steps (step (Report b) s) ms) → P (steps s (element_events b ++ ms))
-block_moved ms s P given given' given'' = grind arith
-
 pub blocks_same : (bs : List (List ℕ)) (s : Sum) → AreOneBlocks bs → IsSame s (steps s (events_of_elements bs))
 blocks_same [] s are = record { replies = refl; end_ms = refl }
 blocks_same (b ∷ bs) s are =
-    grind (
-      arith,
-      blocks_same bs (step (Frame b) s) are.1,
-      blocks_same bs (step (Report b) s) are.1,
-      block_moved,
-      events_of_elements bs,
-      end_ms,
-    )
+    search (arith, blocks_same bs (step (Frame b) s) are.1, blocks_same bs (step (Report b) s) are.1)
 
 -- the bytes of all are received
 pub blocks_received : (bs : List (List ℕ)) (s : Sum) → AreOneBlocks bs → plays s ≡ true
     → (steps s (events_of_elements bs)).received ≡ s.received + length (framed_bytes bs)
 blocks_received [] s are on = omega arith
-blocks_received (b ∷ bs) s are on =
-    grind (
-      arith,
-      cond-true (plays s) (s.received + length b) s.received on,
-      block_moved,
-      events_of_elements bs,
-      framed_bytes (b ∷ bs),
-      blocks_received bs (step (Frame b) s) are.1 on,
-      length-append b (framed_bytes bs),
-      framed_bytes bs,
-      blocks_received bs (step (Report b) s) are.1 on,
-    )
+blocks_received (b ∷ bs) s are on = search (
+  arith,
+  blocks_received bs (step (Frame b) s) are.1 on,
+  length-append b (framed_bytes bs),
+  blocks_received bs (step (Report b) s) are.1 on,
+)
 
 -- the first frame stays
-some_frames : (n : ℕ) → 0 < n → (n == 0) ≡ false
-some_frames n some = ne_eqb n 0 (λ none. omega (arith, some, none))
-
 pub blocks_first : (bs : List (List ℕ)) (s : Sum) → AreOneBlocks bs → 0 < s.frames
     → (steps s (events_of_elements bs)).first ≡ s.first
 blocks_first [] s are some = refl
-blocks_first (b ∷ bs) s are some =
-    block_moved (events_of_elements bs) s (λ t. t.first ≡ s.first) are.0.moment
-    (blocks_first bs (step (Frame b) s) are.1 (omega arith)
-    ∙ cond-false (s.frames == 0) b s.first (some_frames s.frames some)) (blocks_first bs (step (Report b) s) are.1 some)
+blocks_first (b ∷ bs) s are some = search
+    (arith, blocks_first bs (step (Frame b) s) are.1 (omega arith), blocks_first bs (step (Report b) s) are.1 some)

@@ -1,7 +1,5 @@
-use Rattle.std.proofs.Common.{arith}
-use Rattle.std.proofs.lemmas.Grind.{common_steps}
 -- However the same bytes between the same slots are split, a connection sends the same.
-use Rattle.std.proofs.Common.{◌≡◌, ℕ, ◌++◌, List, [], ◌∷◌, map, refl, ap, sym, ◌∙◌, subst, inl, inr, ap₂}
+use Rattle.std.proofs.Common.{ap₂, arith, ◌≡◌, ℕ, ◌++◌, List, [], ◌∷◌, map, refl, ap, sym, ◌∙◌, inl}
 use Rattle.std.proofs.lemmas.List.{append-nil, append_assoc, map-append}
 use Rattle.connection_laws.proofs.Terms.{IoEvent, HeardBytes, HeardSlot, Stored, AreFilms, Comes, Round, Runs}
 use Rattle.connection_laws.proofs.Terms.{IsStopped, rounds_outcomes, takings_bytes, takings_outcomes, HasStepped}
@@ -12,10 +10,9 @@ use Rattle.conn.specs.EventSteps.{RunsAll}
 use Rattle.connection_laws.specs.InputSplits.{HaveSameInput, HaveSameOutput, all_heard, heard_in}
 use Rattle.connection_laws.proofs.KeptParts.{stepped_names}
 use Rattle.connection_laws.proofs.UniqueResults.{steps_same}
-use Rattle.connection_laws.proofs.ElementPaths.{GoesAll, Path, Element, ends_same, goes_films, goes_grow, longer}
-use Rattle.connection_laws.proofs.ElementPaths.{path_of, Exchange, no_exchange, joined, joined_assoc, exchange_of}
-use Rattle.connection_laws.proofs.ElementPaths.{join_exchange, takings_exchange, way_then, Way, PathDone, path_moved}
-use Rattle.connection_laws.proofs.ElementPaths.{AreAlike}
+use Rattle.connection_laws.proofs.ElementPaths.{GoesAll, Element, ends_same, goes_films, goes_grow, longer, path_of}
+use Rattle.connection_laws.proofs.ElementPaths.{Exchange, no_exchange, joined, exchange_of, join_exchange, way_then}
+use Rattle.connection_laws.proofs.ElementPaths.{Way, PathDone, path_moved, AreAlike}
 use Rattle.connection_laws.proofs.Lists.{joins_parts}
 
 -- bytes that came, the elements that were processed after them, and the end, where no more could be processed
@@ -32,13 +29,10 @@ record Leg : Type 0 where
   opened : Stage
   rest : Stretch opened
 
-record IsLeg (old : Stage) (leg : Leg) : Type 0 where
-  stepped : HasStepped old.session leg.slot leg.due leg.halt leg.opened.session
-  input : leg.opened.input ≡ old.input
-
 abbrev LegsAll : Stage → List Leg → Stage → Type 0
 LegsAll old [] new = new ≡ old
-LegsAll old (leg ∷ legs) new = IsLeg old leg × LegsAll leg.rest.way.last legs new
+LegsAll old (leg ∷ legs) new = HasStepped old.session leg.slot leg.due leg.halt leg.opened.session
+    × (leg.opened.input ≡ old.input) × LegsAll leg.rest.way.last legs new
 
 abbrev bytes_heard : List ℕ → List IoEvent
 bytes_heard bytes = map (λ byte. HeardBytes (byte ∷ [])) bytes
@@ -64,13 +58,6 @@ legs_exchange [] = no_exchange
 legs_exchange (leg ∷ legs) = joined (event_exchange (HeardSlot leg.slot) leg.due leg.halt)
     (joined (stretch_exchange leg.rest) (legs_exchange legs))
 
-abbrev legs_heard : List Leg → List IoEvent
-legs_heard legs = (legs_exchange legs).heard
-
-elements_join : (xs ys : List ℕ) (one two : List Element)
-    → elements_exchange (xs ++ ys) (one ++ two) ≡ joined (elements_exchange xs one) (elements_exchange ys two)
-elements_join xs ys one two = search (map-append, join_exchange)
-
 -- a course from a place on: the bytes that came before the next slot, and then slot after slot
 record Split (base new : Stage) (all : Exchange) : Type 0 where
   first : Stretch base
@@ -95,8 +82,8 @@ front_done {cur = cur} front done = record {
 }
 
 -- what comes after an event: the course from there, for each place that it begins at
-record Later (mid new : Stage) (all : Exchange) : Type 0 where
-  each : (base : Stage) (front : FrontTaken base mid) → Split base new (joined (front_exchange front) all)
+abbrev Later : Stage → Stage → Exchange → Type 0
+Later mid new all = (base : Stage) (front : FrontTaken base mid) → Split base new (joined (front_exchange front) all)
 
 -- an event, and the elements that are processed after it
 record EventTaken (cur mid : Stage) (event : IoEvent) : Type 0 where
@@ -107,48 +94,32 @@ record EventTaken (cur mid : Stage) (event : IoEvent) : Type 0 where
   way : Way opened mid
 
 -- an event, with what came before it and what comes after
-module _ {base cur mid new : Stage} {all : Exchange} (front : FrontTaken base cur) (later : Later mid new all) where
-  -- bytes came
-  bytes_split : {bytes : List ℕ} (taken : EventTaken cur mid (HeardBytes bytes)) → Split base new
-      (joined (front_exchange front) (joined (elements_exchange bytes taken.way.elements) all))
-  bytes_split {bytes} taken =
-      let ps : List Element = taken.way.elements in
-      let before : GoesAll (longer base (first ++ bytes)) elements taken.opened =
-      rw (← (ap (λ input. stage base.session input) (append_assoc base.input first bytes)))
-      (rw taken.comes.3 (goes_grow (longer base first) cur elements bytes goes)) in
-      rw (ap (λ x. joined x all) (elements_join first bytes elements ps)
-      ∙ joined_assoc (elements_exchange first elements) (elements_exchange bytes ps) all) at (later.each base (record {
-        bytes = first ++ bytes;
-        way = way_then (record { elements = elements; goes = before }) taken.way;
-      }))
-    where
-      open front use {bytes as first, way}
-      open way use {elements, goes}
-
-  -- a slot came
-  slot_split : {slot : ℕ} (taken : EventTaken cur mid (HeardSlot slot)) → IsDrained cur → Split base new
-      (joined (front_exchange front) (joined (event_exchange (HeardSlot slot) taken.due taken.halt)
-      (joined (elements_exchange [] taken.way.elements) all)))
-  slot_split {slot} taken done =
-      let there : GoesAll (longer opened []) way.elements mid = grind (arith, common_steps) in
-      let rest = later.each opened (record { bytes = []; way = record { elements = way.elements; goes = there } }) in
-      let leg : Leg = record { slot = slot; due = due; halt = halt; opened = opened; rest = rest.first } in
-      record {
-        first = front_done front done;
-        legs = leg ∷ rest.legs;
-        legs_are = (record { stepped = comes.1; input = comes.0 }, rest.legs_are);
-        all_is = grind arith;
-      }
-    where
-      open taken use {opened, due, halt, comes, way}
-
-  event_split : {event : IoEvent} (taken : EventTaken cur mid event) → IsDrained cur → Split base new
-      (joined (front_exchange front) (joined (event_exchange event taken.due taken.halt)
-      (joined (elements_exchange [] taken.way.elements) all)))
-  event_split {event = HeardBytes bytes} taken done =
-      rw taken.comes.0 (rw taken.comes.1 (bytes_split taken))
-  event_split {event = HeardSlot slot} taken done = slot_split taken done
-  event_split taken done = absurd taken.comes
+event_split : {base cur mid new : Stage} {all : Exchange} {event : IoEvent} (front : FrontTaken base cur)
+    → Later mid new all → (taken : EventTaken cur mid event) → IsDrained cur → Split base new
+    (joined (front_exchange front) (joined (event_exchange event taken.due taken.halt)
+    (joined (elements_exchange [] taken.way.elements) all)))
+event_split {base} {cur} {event = HeardBytes bytes} front later taken done =
+    let before : GoesAll (longer base (front.bytes ++ bytes)) front.way.elements taken.opened =
+    rw (← (ap (λ input. stage base.session input) (append_assoc base.input front.bytes bytes)))
+    (rw taken.comes.3 (goes_grow (longer base front.bytes) cur front.way.elements bytes front.way.goes)) in
+    let split = simp (map-append, join_exchange, append_assoc) at (later base (record {
+      bytes = front.bytes ++ bytes;
+      way = way_then (record { elements = front.way.elements; goes = before }) taken.way;
+    })) in
+    rw taken.comes.0 (rw taken.comes.1 split)
+event_split {mid = mid} {event = HeardSlot slot} front later taken done =
+    let there : GoesAll (longer opened []) way.elements mid = rw (append-nil opened.input) way.goes in
+    let rest = later opened (record { bytes = []; way = record { elements = way.elements; goes = there } }) in
+    record {
+      first = front_done front done;
+      legs = record { slot = slot; due = due; halt = halt; opened = opened; rest = rest.first } ∷ rest.legs;
+      legs_are = (comes.1, comes.0, rest.legs_are);
+      all_is =
+          ap (λ e. joined (front_exchange front) (joined (event_exchange (HeardSlot slot) due halt) e)) rest.all_is;
+    }
+  where
+    open taken use {opened, due, halt, comes, way}
+event_split front later taken done = absurd taken.comes
 
 -- event after event
 abbrev rounds_exchange : (cur : Stage) (rounds : List Round) (new : Stage) → TakesUp cur rounds new → Exchange
@@ -159,41 +130,28 @@ rounds_exchange cur rounds new takes = record {
   hearings = heard_requests_in cur rounds new takes;
 }
 
-round_exchange : {cur : Stage} (new : Stage) (round : Round) (rounds : List Round)
-    (takes : TakesUp cur (round ∷ rounds) new)
-    (path : Path takes.1.0.opened takes.0 (takings_exchange takes.1.0.opened round.takings takes.0 takes.1.0.takes))
-    → joined (event_exchange round.event round.due round.halt)
-    (joined (elements_exchange [] path.way.elements) (rounds_exchange takes.0 rounds new takes.1.2))
-    ≡ rounds_exchange cur (round ∷ rounds) new takes
-round_exchange {cur} new round rounds takes path =
-    let rest = rounds_exchange takes.0 rounds new takes.1.2 in
-    ap (λ (e : Exchange). joined (event_exchange round.event round.due round.halt)
-    (joined (record e { heard = [] }) rest)) path.is
-    ∙ rw (
-      append_assoc (parts_bytes round.due) (takings_bytes round.takings) rest.bytes,
-      joins_parts answers_in (record { one = answer_in; none = refl; more = λ x xs. refl })
-          (takings_outcomes round.takings) (rounds_outcomes rounds),
-    )
-
 rounds_split : (cur new : Stage) (rounds : List Round) (takes : TakesUp cur rounds new) → IsDrained cur
     → Later cur new (rounds_exchange cur rounds new takes)
 rounds_split cur new [] takes done =
-    record { each = λ base front. record { first = front_done front done; legs = []; legs_are = takes; all_is = refl } }
+    λ base front. record { first = front_done front done; legs = []; legs_are = takes; all_is = refl }
 rounds_split cur new (round ∷ rounds) takes done =
     let mid : Stage = takes.0 in
     let runs = takes.1.0 in
     let later = rounds_split mid new rounds takes.1.2 takes.1.1 in
     let path = path_of runs.opened mid round.takings runs.takes in
     let taken : EventTaken cur mid round.event = grind arith in
-    record {
-      each = λ base front. rw (ap (joined (front_exchange front)) (round_exchange new round rounds takes path)) at
-          (event_split front later taken done);
-    }
+    λ base front. rw (
+      path.is,
+      ← (append_assoc (parts_bytes round.due) (takings_bytes round.takings) (rounds_bytes rounds)),
+      ← (joins_parts answers_in (record { one = answer_in; none = refl; more = λ x xs. refl })
+          (takings_outcomes round.takings) (rounds_outcomes rounds)),
+    ) at (event_split front later taken done)
 
 -- ---- what was received has one split
 
-heard_split : (xs ys : List ℕ) (one other : List Leg) → bytes_heard xs ++ legs_heard one ≡ bytes_heard ys
-    ++ legs_heard other → (xs ≡ ys) × (legs_heard one ≡ legs_heard other)
+heard_split : (xs ys : List ℕ) (one other : List Leg)
+    → bytes_heard xs ++ (legs_exchange one).heard ≡ bytes_heard ys ++ (legs_exchange other).heard
+    → (xs ≡ ys) × ((legs_exchange one).heard ≡ (legs_exchange other).heard)
 heard_split [] [] one other same = (refl, same)
 heard_split [] (y ∷ ys) [] other same = cc
 heard_split [] (y ∷ ys) (leg ∷ one) other same = cc
@@ -203,79 +161,57 @@ heard_split (x ∷ xs) (y ∷ ys) one other same = grind (arith, heard_split xs 
 
 -- ---- leg by leg
 
-record SameLegs (one other : Stage) (sent again : List ℕ) : Type 0 where
-  last : other ≡ one
-  bytes : again ≡ sent
-
-opened_same : (a b : Stage) → b.session ≡ a.session → b.input ≡ a.input → b ≡ a
-opened_same a b session input = ap (λ s. stage s b.input) session ∙ ap (λ i. stage a.session i) input
-
 -- what two connections received is the same, so are the answers, and memory ran out alike
-record ExchangesAlike (a b : Exchange) : Type 0 where
-  heard : a.heard ≡ b.heard
-  alike : AreAlike a b
+abbrev ExchangesAlike : Exchange → Exchange → Type 0
+ExchangesAlike a b = (a.heard ≡ b.heard) × AreAlike a b
 
 -- from one stage on, these legs come to the same where what they exchange is alike
 abbrev ComeToSame : List Leg → List Leg → Stage → Stage → Type 0
 ComeToSame xs ys one other = (at : Stage) → AreFilms at.session.films → LegsAll at xs one → LegsAll at ys other
     → ExchangesAlike (legs_exchange xs) (legs_exchange ys)
-    → SameLegs one other (legs_exchange xs).bytes (legs_exchange ys).bytes
+    → (other ≡ one) × ((legs_exchange ys).bytes ≡ (legs_exchange xs).bytes)
 
-splits_same : {base one other : Stage} {a b : Exchange} → AreFilms base.session.films → (x : Split base one a)
-    (y : Split base other b) → ExchangesAlike a b → ComeToSame x.legs y.legs one other
-    → SameLegs one other a.bytes b.bytes
-splits_same {base} {other = other} {a} {b} films x y given legs =
+splits_same : {base again one other : Stage} {a b : Exchange} → again ≡ base → AreFilms base.session.films
+    → (x : Split base one a) (y : Split again other b) → ExchangesAlike a b → ComeToSame x.legs y.legs one other
+    → (other ≡ one) × (b.bytes ≡ a.bytes)
+splits_same {base} {other = other} {a} {b} same films x y given legs =
     let cut = heard_split x.first.bytes y.first.bytes x.legs y.legs
-    (sym (ap (λ (e : Exchange). e.heard) x.all_is) ∙ given.heard ∙ ap (λ (e : Exchange). e.heard) y.all_is) in
-    let xs = joined (stretch_exchange x.first) (legs_exchange x.legs) in
-    let both : AreAlike xs (joined (stretch_exchange y.first) (legs_exchange y.legs)) = grind arith in
+    (sym (ap (λ (e : Exchange). e.heard) x.all_is) ∙ given.0 ∙ ap (λ (e : Exchange). e.heard) y.all_is) in
     let way = x.first.way in
     let ends = ends_same (legs_exchange x.legs) (legs_exchange y.legs) films way
-    (path_moved (ap (longer base) (sym cut.0)) y.first.way) (record { answers = both.answers; memory = both.memory }) in
+    (path_moved (ap₂ longer same (sym cut.0)) y.first.way) (rw (x.all_is, y.all_is) at given.1) in
     let there : AreFilms way.last.session.films =
     rw (goes_films (longer base x.first.bytes) way.last x.first.elements way.goes) films in
-    let rest = legs way.last there x.legs_are (rw ends.last_is at y.legs_are)
-    (record { heard = cut.1; alike = ends.later }) in
-    record { last = rest.last; bytes = rw (y.all_is, ends.bytes, rest.bytes, x.all_is) }
+    let rest = legs way.last there x.legs_are (rw ends.0 at y.legs_are)
+    (cut.1, ends.2) in
+    (rest.0, rw (y.all_is, ends.1, rest.1, x.all_is))
 
 -- the split after a leg's slot
 abbrev split_after : {base new : Stage} (rest : Stretch base) (legs : List Leg) → LegsAll rest.way.last legs new
     → Split base new (joined (stretch_exchange rest) (legs_exchange legs))
 split_after rest legs are = record { first = rest; legs = legs; legs_are = are; all_is = refl }
 
-abbrev moved : {a b : Stage} → b ≡ a → Stretch b → Stretch a
-moved same rest = record {
-  bytes = rest.bytes;
-  elements = rest.elements;
-  way = path_moved (ap (λ s. longer s rest.bytes) same) rest.way;
-}
-
 legs_same : {one other : Stage} (xs ys : List Leg) → ComeToSame xs ys one other
-legs_same [] [] old films legs too given = record { last = too ∙ sym legs; bytes = refl }
-legs_same [] (y ∷ ys) old films legs too given = cc given.heard
-legs_same (x ∷ xs) [] old films legs too given = cc given.heard
+legs_same [] [] old films legs too given = (too ∙ sym legs, refl)
+legs_same [] (y ∷ ys) old films legs too given = cc given.0
+legs_same (x ∷ xs) [] old films legs too given = cc given.0
 legs_same {one} {other} (x ∷ xs) (y ∷ ys) old films legs too given =
-    let leg : IsLeg old x = legs.0 in
-    let again : IsLeg old y = too.0 in
-    let slots : y.slot ≡ x.slot = cc given.heard in
+    let slots : y.slot ≡ x.slot = cc given.0 in
     let step = steps_same {old = old.session} {slot = x.slot} {one = x.halt} {other = y.halt}
     (record {
       ones = (exchange_of x.rest.elements).answers ++ (legs_exchange xs).answers;
       others = (exchange_of y.rest.elements).answers ++ (legs_exchange ys).answers;
-      same = given.alike.answers;
-    }) (record { due = x.due; new = x.opened.session; stepped = leg.stepped })
-    (record { due = y.due; new = y.opened.session; stepped = rw (← slots) again.stepped }) in
-    let opened : y.opened ≡ x.opened = opened_same x.opened y.opened step.1 (again.input ∙ sym leg.input) in
+      same = given.1.0;
+    }) (record { due = x.due; new = x.opened.session; stepped = legs.0 })
+    (record { due = y.due; new = y.opened.session; stepped = rw (← slots) too.0 }) in
+    let opened : y.opened ≡ x.opened = ap₂ stage step.1 (too.1 ∙ sym legs.1) in
     let kept : AreFilms x.opened.session.films =
     rw (ap (λ (n : List Stored × List ℕ). n.0)
-    (stepped_names old.session x.slot x.due x.halt x.opened.session leg.stepped)) films in
-    let rest = splits_same kept (split_after x.rest xs legs.1) (split_after (moved opened y.rest) ys too.1)
-    (record { heard = cc given.heard; alike = record { answers = step.2; memory = given.alike.memory } })
+    (stepped_names old.session x.slot x.due x.halt x.opened.session legs.0)) films in
+    let rest = splits_same opened kept (split_after x.rest xs legs.2) (split_after y.rest ys too.2)
+    (cc given.0, (step.2, given.1.1))
     (legs_same xs ys) in
-    record {
-      last = rest.last;
-      bytes = cc (step.0, rest.bytes);
-    }
+    (rest.0, cc (step.0, rest.1))
 
 -- ---- from a connection's beginning on
 
@@ -286,7 +222,7 @@ whole_split : (beginning : Beginning) (cutting : InputSplit beginning) → Split
     (rounds_exchange (first_of beginning) cutting.rounds cutting.last cutting.takes)
 whole_split beginning cutting =
     (rounds_split (first_of beginning) cutting.last cutting.rounds cutting.takes
-    (inl (record { torn = refl; waits = inl (inl refl) }))).each (first_of beginning)
+    (inl (record { torn = refl; waits = inl (inl refl) }))) (first_of beginning)
     (record { bytes = []; way = record { elements = []; goes = refl } })
 
 pub two_cuttings : (beginning : Beginning) (one other : InputSplit beginning) → AreFilms beginning.films
@@ -294,10 +230,10 @@ pub two_cuttings : (beginning : Beginning) (one other : InputSplit beginning) �
 two_cuttings beginning one other films cuts =
     let x = whole_split beginning one in
     let y = whole_split beginning other in
-    let same = splits_same films x y
-    (record { heard = cuts.heard; alike = record { answers = cuts.answers; memory = cuts.memory } })
+    let same = splits_same refl films x y
+    (cuts.heard, (cuts.answers, cuts.memory))
     (legs_same x.legs y.legs) in
-    record { bytes = sym same.bytes; last = sym same.last }
+    record { bytes = sym same.1; last = sym same.0 }
 
 -- ---- a connection's course is such a split, and so is each prefix of it
 

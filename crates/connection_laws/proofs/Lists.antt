@@ -1,7 +1,6 @@
-use Rattle.std.proofs.Common.{arith}
 -- Lists, element by element: what each element satisfies, and functions that join what they make of each.
+use Rattle.std.proofs.Common.{arith, ◌≡◌, ℕ, suc, List, [], ◌∷◌, ◌++◌, take, ap, append_assoc}
 use Rattle.std.specs.Prelude.{⊤}
-use Rattle.std.proofs.Common.{◌≡◌, ℕ, suc, List, [], ◌∷◌, ◌++◌, take, ap, append_assoc}
 
 abbrev pub Each : {A : Type 0} → (A → Type 0) → List A → Type 0
 Each P [] = ⊤

@@ -1,20 +1,19 @@
--- What a client reads its meter by, where what came is a prefix of two replies, a film's blocks and
--- later replies.
-use Rattle.std.proofs.Common.{◌≡◌, ℕ, zero, suc, ◌+◌, ◌-◌, ◌<◌, ◌≤◌, ◌==◌, ◌&&◌, ◌||◌, Bool, true, false, nat_lt, cond}
-use Rattle.std.proofs.Common.{min, List, [], ◌∷◌, ◌++◌, length, take, get_or, refl, ap, ◌∙◌, arith, inl, inr}
-use Rattle.std.proofs.lemmas.Bool.{cases_lt, cond-true, cond-false, eq-eqb, lt-ltb, or_left, or_right}
-use Rattle.std.proofs.lemmas.List.{get_or-take, length-take-le, take-append-le, take_all}
+-- What a client reads its meter by, where what came is a prefix of two replies, a film's blocks and later replies;
+-- and where an element stands among these.
+use Rattle.std.proofs.Common.{◌≡◌, ℕ, zero, suc, ◌+◌, ◌-◌, ◌<◌, ◌≤◌, ◌==◌, false, min, Ok, List, [], ◌∷◌, ◌++◌, length}
+use Rattle.std.proofs.Common.{take, get_or, refl, ap, subst, ◌∙◌, arith, inl, inr}
+use Rattle.std.proofs.lemmas.Bool.{cases_lt}
+use Rattle.std.proofs.lemmas.List.{get_or-take, length-append, length-take, take-append-le, take_all}
 use Rattle.std.proofs.Math.Seq.{take-append-add}
-use Rattle.connection_laws.proofs.Terms.{is_line_end, IsMessageLength, StartsMessage, IsElementLength, WholeMessage}
-use Rattle.connection_laws.proofs.Terms.{count_ended, framed_bytes, block_events, cut_bytes, events_of_elements}
-use Rattle.connection_laws.proofs.Terms.{element_events, WatchStage, Reply, replies}
-use Rattle.interleave.proofs.StreamElements.{TwoStreams, stream_once}
+use Rattle.connection_laws.proofs.Terms.{IsFirst, IsMessageLength, More, StartsMessage, count_ended, framed_bytes}
+use Rattle.connection_laws.proofs.Terms.{cut_bytes, events_of_elements, element_events, WatchStage, Reply, replies}
+use Rattle.interleave.proofs.StreamElements.{TwoStreams, stream_once, tells_none}
 use Rattle.connection_laws.proofs.PieceCounts.{all_past, all_within, at_less, at_more, count_bytes, count_most}
 use Rattle.connection_laws.proofs.PieceCounts.{count_whole, rest_at}
-use Rattle.connection_laws.proofs.ClientInput.{Heard, no_sum}
+use Rattle.connection_laws.proofs.ClientInput.{Heard, no_sum, moments_parts}
 use Rattle.connection_laws.proofs.ElementStreams.{AreAlone, IsAlone, cut_at}
-use Rattle.connection_laws.proofs.HistorySums.{AreOneBlocks, Sum, blocks_same, step, steps, steps_on, sum_of}
-use Rattle.connection_laws.proofs.UnitSizes.{moments_parts}
+use Rattle.connection_laws.proofs.HistorySums.{AreOneBlocks, IsOneBlock, Sum, blocks_same, replies_grow, step, steps}
+use Rattle.connection_laws.proofs.HistorySums.{steps_on, sum_of}
 use Rattle.connection_laws.proofs.Lists.{Each}
 
 -- ---- a reply, as it is received
@@ -40,31 +39,12 @@ texts_cut [] d are = refl
 texts_cut (m ∷ ms) d are =
     grind (arith, cases_lt d (length m), at_less, take_cut m d are.0.other, at_more, texts_cut ms (d - length m) are.1)
 
-block_cut : (b : List ℕ) (d : ℕ) → d ≤ length b → get_or b 0 0 ≡ 36 → get_or b 1 0 < 2
-    → cut_bytes (take d b) ≡ length (take d b)
-block_cut b zero few starts channel = refl
-block_cut b (suc d) few starts channel =
-    let rest = take (suc d) b in
-    let c : Bool = nat_lt (length rest) 2 || nat_lt (get_or rest 1 0) 2 in
-    let second : c ≡ true = elim (cases_lt (length rest) 2) [
-      | inl short ↦ or_left (nat_lt (length rest) 2) (nat_lt (get_or rest 1 0) 2) (lt-ltb (length rest) 2 short)
-      | inr more ↦
-          or_right (nat_lt (length rest) 2) (nat_lt (get_or rest 1 0) 2)
-          (lt-ltb (get_or rest 1 0) 2
-          (omega (arith, get_or-take (suc d) b 1 0 (omega (arith, more, length-take-le (suc d) b few)), channel)))
-    ] in
-    cond-true ((get_or rest 0 0 == 36) && c) (length rest) 0
-    (ap (λ x. x && c) (eq-eqb (get_or rest 0 0) 36 (get_or-take (suc d) b 0 0 (omega arith) ∙ starts)) ∙ second)
+block_cut : (b : List ℕ) (d : ℕ) → get_or b 0 0 ≡ 36 → get_or b 1 0 < 2 → cut_bytes (take d b) ≡ length (take d b)
+block_cut b d starts channel = grind (arith, get_or-take, length-take)
 
 blocks_cut : (bs : List (List ℕ)) (c : ℕ) → AreOneBlocks bs → cut_bytes (rest_at c bs) ≡ length (rest_at c bs)
 blocks_cut [] c are = refl
-blocks_cut (b ∷ bs) c are =
-    elim (cases_lt c (length b)) [
-      | inl less ↦
-          let one = at_less b bs c less in
-          rw one.1 (block_cut b c (omega (arith, less)) are.0.starts are.0.channel)
-      | inr more ↦ let one = at_more b bs c more in rw one.1 (blocks_cut bs (c - length b) are.1)
-    ]
+blocks_cut (b ∷ bs) c are = search (arith, block_cut b c are.0.starts are.0.channel, blocks_cut bs (c - length b) are.1)
 
 -- ---- a stream of two replies, blocks, and later replies
 
@@ -106,114 +86,97 @@ pub record IsReadingOf (x : Stream) (c : ℕ) (at : WatchStage) : Type 0 where
   pub cut : length (framed_bytes (take (count_ended (film_place x c) x.blocks) x.blocks)) + cut_bytes at.rest
       ≡ min (film_place x c) (length (framed_bytes x.blocks))
 
--- what was received with the two first replies complete
-record HasTwoReplies (x : Stream) (c : ℕ) (at : WatchStage) : Type 0 where
-  past : length x.first + length x.second ≤ c
-  sum : sum_of at.history
-      ≡ steps (begun_sum x) (events_of_elements (take (count_ended (film_place x c) (x.blocks ++ x.later)) (x.blocks ++
-      x.later)))
-  rest : at.rest ≡ rest_at (film_place x c) (x.blocks ++ x.later)
-  few : replies at.history ≤ 2
-
--- before the film's end
-module _ {at : WatchStage} where
-  reading_inside : {x : Stream} {c : ℕ} → HasTwoReplies x c at → film_place x c < length (framed_bytes x.blocks)
-      → IsReadingOf x c at
-  reading_inside {x} {c} two inside =
-      let d = film_place x c in
-      let bs = x.blocks in
-      let within = all_within bs x.later d inside in
-      record {
-        past = two.past;
-        sum = rw (two.sum, within.0, take-append-le (count_ended d bs) bs x.later (omega (arith, within.1)));
-        cut =
-            let cut : cut_bytes at.rest ≡ length (rest_at d bs) =
-            rw (two.rest, within.2, blocks_cut bs d x.blocks_are) in
-            omega (arith, count_bytes bs d (omega (arith, inside)), cut, inside);
-      }
-
-  -- past it
-  reading_past : {x : Stream} {c : ℕ} → HasTwoReplies x c at → length (framed_bytes x.blocks) ≤ film_place x c
-      → IsReadingOf x c at
-  reading_past {x} {c} two after =
-      let d = film_place x c in
-      let bs = x.blocks in
-      let total = length (framed_bytes bs) in
-      let s = begun_sum x in
-      let k = count_ended (d - total) x.later in
-      let past = all_past bs x.later d after in
-      let t = steps s (events_of_elements bs) in
-      let all : sum_of at.history ≡ steps t (events_of_elements (take k x.later)) =
-      rw (two.sum, past.0, take-append-add bs x.later k, moments_parts bs (take k x.later))
-      (rw (steps_on s (events_of_elements bs) (events_of_elements (take k x.later)))) in
-      let same = (blocks_same bs s x.blocks_are).replies in
-      let counted = texts_count x.later k t x.later_are (count_most x.later (d - total)) in
-      let none : k ≡ 0 = omega (arith, ap (λ (z : Sum). z.replies) all, counted, same, two.few) in
-      let whole : count_ended d bs ≡ length bs = count_whole bs d after in
-      let front : take (count_ended d bs) bs ≡ bs = take_all (count_ended d bs) bs (omega (arith, whole)) in record {
-        past = two.past;
-        sum = cc (all, none, front);
-        cut =
-            let cut : cut_bytes at.rest ≡ 0 =
-            rw (two.rest, past.1) (texts_cut x.later (d - total) x.later_are) in
-            omega (arith, cut, ap (λ l. length (framed_bytes l)) front, after);
-      }
-
-  reading_film : {x : Stream} {c : ℕ} → HasTwoReplies x c at → IsReadingOf x c at
-  reading_film {x} {c} two = elim (cases_lt (film_place x c) (length (framed_bytes x.blocks))) [
-    | inl inside ↦ reading_inside two inside
-    | inr after ↦ reading_past two after
-  ]
+-- before the film's end, and past it
+reading_film : {at : WatchStage} {x : Stream} {c : ℕ} → length x.first + length x.second ≤ c → sum_of at.history
+    ≡ steps (begun_sum x)
+    (events_of_elements (take (count_ended (film_place x c) (x.blocks ++ x.later)) (x.blocks ++ x.later)))
+    → at.rest ≡ rest_at (film_place x c) (x.blocks ++ x.later) → replies at.history ≤ 2 → IsReadingOf x c at
+reading_film {at} {x} {c} long sum_is rest_is few =
+    let d = film_place x c in
+    let bs = x.blocks in
+    elim (cases_lt d (length (framed_bytes bs))) [
+      | inl inside ↦ search (arith, all_within, blocks_cut, take-append-le, count_bytes)
+      | inr after ↦
+          let total = length (framed_bytes bs) in
+          let k = count_ended (d - total) x.later in
+          let past = all_past bs x.later d after in
+          let t = steps (begun_sum x) (events_of_elements bs) in
+          let all : sum_of at.history ≡ steps t (events_of_elements (take k x.later)) =
+          rw (sum_is, past.0, take-append-add bs x.later k, moments_parts bs (take k x.later))
+          (steps_on (begun_sum x) (events_of_elements bs) (events_of_elements (take k x.later))) in
+          let same = (blocks_same bs (begun_sum x) x.blocks_are).replies in
+          let counted = texts_count x.later k t x.later_are (count_most x.later (d - total)) in
+          let none : k ≡ 0 = omega (arith, ap (λ (z : Sum). z.replies) all, counted, same, few) in
+          let front : take (count_ended d bs) bs ≡ bs =
+          take_all (count_ended d bs) bs (omega (arith, count_whole bs d after)) in
+          let cut : cut_bytes at.rest ≡ 0 = rw (rest_is, past.1) (texts_cut x.later (d - total) x.later_are) in
+          record {
+            past = long;
+            sum = cc (all, none, front);
+            cut = omega (arith, cut, ap (λ l. length (framed_bytes l)) front, after);
+          }
+    ]
 
 -- what was received, of which no complete element waits, is so much of a stream
-pub record StreamHeard (x : Stream) (at : WatchStage) : Type 0 where
-  pub bytes : List ℕ
-  pub count : ℕ
-  pub heard : Heard bytes at
-  pub none : (n : ℕ) → IsElementLength at.rest n → ⊥
-  pub is : bytes ≡ take count (framed_bytes (all_of x))
+pub reading_of : {x : Stream} {bytes : List ℕ} {at : WatchStage} (c : ℕ) → Heard bytes at → IsFirst at.rest (Ok More)
+    → bytes ≡ take c (framed_bytes (all_of x)) → 1 < replies at.history → replies at.history ≤ 2 → IsReadingOf x c at
+reading_of {x} {bytes} {at} c heard idle is playing few =
+    let all = all_of x in
+    let streams : TwoStreams bytes heard.elements (take (count_ended c all) all) at.rest (rest_at c all) =
+    record { one = (heard.cut, tells_none at.rest (Ok More) idle); other = rw is (cut_at all c x.alone) } in
+    let once = stream_once streams in
+    let whole = heard.sum ∙ ap (λ l. steps no_sum (events_of_elements l)) once.0 in
+    let two = x.first ∷ x.second ∷ [] in
+    let later = x.blocks ++ x.later in
+    let size : length (framed_bytes two) ≡ length x.first + length x.second =
+    omega (arith, length-append x.first (x.second ++ []), length-append x.second []) in
+    elim (cases_lt c (length (framed_bytes two))) [
+      | inl short ↦
+          let k = count_ended c two in
+          let within = all_within two later c short in
+          let sum : sum_of at.history ≡ steps no_sum (events_of_elements (take k two)) =
+          rw (whole, within.0, take-append-le k two later (omega (arith, within.1))) in
+          let counted = texts_count two k no_sum (x.first_is, (x.second_is, tt)) (omega (arith, within.1)) in
+          absurd (omega (arith, playing, ap (λ (z : Sum). z.replies) sum, counted, within.1))
+      | inr long ↦
+          let past = all_past two later c long in
+          let place : c - length (framed_bytes two) ≡ film_place x c = omega (arith, size) in
+          let k = count_ended (film_place x c) later in
+          let front : take (count_ended c all) all
+          ≡ two ++ take k later = search (arith, take-append-add two later k) in
+          reading_film (omega (arith, long, size)) (rw (whole, front, two_moments x (take k later)))
+          (rw (once.1, past.1, place)) few
+    ]
 
--- its elements, as a sum
-module _ {x : Stream} {at : WatchStage} (received : StreamHeard x at) where
-  open received use {bytes, count as c, heard, none, is}
+-- ---- where an element stands
 
-  reading_sum : (sum_of at.history ≡ steps no_sum (events_of_elements (take (count_ended c (all_of x)) (all_of x))))
-      × (at.rest ≡ rest_at c (all_of x))
-  reading_sum =
-      let all = all_of x in
-      let streams : TwoStreams bytes heard.elements (take (count_ended c all) all) at.rest (rest_at c all) =
-      record { one = (heard.cut, none); other = rw is (cut_at all c x.alone) } in
-      let once = stream_once streams in
-      (heard.sum ∙ ap (λ l. steps no_sum (events_of_elements l)) once.0, once.1)
+-- a reply after the blocks is a third one
+pub third_reply : (x : Stream) (y : List ℕ) (ys : List (List ℕ)) → element_events y ≡ Reply y ∷ []
+    → 3 ≤ (steps no_sum (events_of_elements (x.first ∷ x.second ∷ (x.blocks ++ y ∷ ys)))).replies
+third_reply x y ys reply = search (
+  arith,
+  moments_parts x.blocks (y ∷ ys),
+  steps_on (begun_sum x) (events_of_elements x.blocks) (Reply y ∷ events_of_elements ys),
+  replies_grow,
+)
 
-  pub reading_of : 1 < replies at.history → replies at.history ≤ 2 → IsReadingOf x c at
-  reading_of playing few =
-      let all = all_of x in
-      let whole = reading_sum in
-      let after_first = x.second ∷ (x.blocks ++ x.later) in
-      elim (cases_lt c (length x.first)) [
-        | inl short ↦
-            let nothing : sum_of at.history ≡ no_sum = rw (whole.0, (at_less x.first after_first c short).0) in
-            absurd (omega (arith, playing, ap (λ (z : Sum). z.replies) nothing))
-        | inr long ↦
-            let c1 = c - length x.first in
-            let one = at_more x.first after_first c long in
-            elim (cases_lt c1 (length x.second)) [
-              | inl short ↦
-                  let only : take (count_ended c all) all ≡ x.first ∷ [] =
-                  rw (one.0, (at_less x.second (x.blocks ++ x.later) c1 short).0) in
-                  let single : sum_of at.history ≡ steps no_sum (Reply x.first ∷ []) = grind arith in
-                  absurd (omega (arith, playing, ap (λ (z : Sum). z.replies) single))
-              | inr more ↦
-                  let two = at_more x.second (x.blocks ++ x.later) c1 more in
-                  let k = count_ended (film_place x c) (x.blocks ++ x.later) in
-                  let front : take (count_ended c all) all ≡ x.first ∷ x.second ∷ take k (x.blocks ++ x.later) =
-                  rw (one.0, two.0) in
-                  reading_film {x = x} {c = c} (record {
-                    past = omega (arith, long, more);
-                    sum = rw (whole.0, front, two_moments x (take k (x.blocks ++ x.later)));
-                    rest = rw (whole.1, one.1, two.1);
-                    few = few;
-                  })
-            ]
-      ]
+-- where an element stands among blocks and later texts: within the blocks, directly after them, or after a text
+pub data StandsIn (bs ls qs : List (List ℕ)) (e : List ℕ) (es : List (List ℕ)) : Type 0 where
+  Within : (rest : List (List ℕ)) → bs ≡ qs ++ e ∷ rest → AreOneBlocks qs → IsOneBlock e → StandsIn bs ls qs e es
+  After : qs ≡ bs → ls ≡ e ∷ es → StandsIn bs ls qs e es
+  Later : (y : List ℕ) (more : List (List ℕ)) → qs ≡ bs ++ y ∷ more → element_events y ≡ Reply y ∷ []
+      → StandsIn bs ls qs e es
+
+pub stands_in : (bs ls qs : List (List ℕ)) (e : List ℕ) (es : List (List ℕ)) → AreOneBlocks bs → AreTexts ls
+    → bs ++ ls ≡ qs ++ e ∷ es → StandsIn bs ls qs e es
+stands_in [] ls [] e es ones are is = After refl is
+stands_in [] ls (q ∷ qs) e es ones are is =
+    let texts : AreTexts (q ∷ (qs ++ e ∷ es)) = subst AreTexts is are in Later q qs refl texts.0.moment
+stands_in (b ∷ bs) ls [] e es ones are is = Within bs (cc) tt (let same : b ≡ e = cc in rw same at ones.0)
+stands_in (b ∷ bs) ls (q ∷ qs) e es ones are is =
+    let same : b ≡ q = cc in
+    elim (stands_in bs ls qs e es ones.1 are (cc)) [
+      | Within more inside front one ↦ Within more (cc) (rw same at ones.0, front) one
+      | After past after ↦ After (cc) after
+      | Later y more past text ↦ Later y more (cc) text
+    ]

@@ -1,21 +1,21 @@
 -- Parts that are sent are the film's bytes with the texts among them. Replies are sent in the order of their requests,
 -- each once, but for the one that waits.
 use Rattle.std.specs.Prelude.{⊤}
-use Rattle.std.proofs.Common.{◌≡◌, ℕ, ◌+◌, ◌-◌, ◌≤◌, ◌++◌, List, ◌∷◌, length, take, drop, refl, ap, sym, ◌∙◌, arith}
-use Rattle.std.proofs.Common.{◌&&◌, if◌then◌else◌, Bool, true, false, map, []}
+use Rattle.std.proofs.Common.{◌≡◌, ℕ, ◌+◌, ◌-◌, ◌≤◌, ◌++◌, List, ◌∷◌, length, refl, ap, sym, arith, if◌then◌else◌, Bool}
+use Rattle.std.proofs.Common.{true, map, []}
 use Rattle.std.proofs.lemmas.List.{append-nil, append_assoc}
 use Rattle.std.proofs.Math.Seq.{drop-append-add, take-append-add}
 use Rattle.connection_laws.proofs.Terms.{round_parts, rounds_parts, takings_parts, Round, takings_bytes, rounds_bytes}
 use Rattle.connection_laws.proofs.Terms.{Course, course_film, Answered, SentPart, Passed, Stage, ElementStep, Text}
-use Rattle.connection_laws.proofs.Terms.{film_bytes, parts_bytes, Outcome, due_parts, PlacedText, placed_texts}
-use Rattle.connection_laws.proofs.Terms.{insert_texts, text_of, waiting_reply, course_texts, course_replies, can_reply}
-use Rattle.connection_laws.proofs.Terms.{is_between, sent_due, sent_reply, step_bytes, stepped_in, SessionState}
+use Rattle.connection_laws.proofs.Terms.{film_bytes, parts_bytes, Outcome, PlacedText, placed_texts, insert_texts}
+use Rattle.connection_laws.proofs.Terms.{text_of, waiting_reply, course_texts, course_replies, can_reply, sent_reply}
+use Rattle.connection_laws.proofs.Terms.{SessionState}
 use Rattle.conn.specs.InputSteps.{Film, part_bytes}
 use Rattle.connection_laws.proofs.RequestEffects.{answered_after}
 use Rattle.connection_laws.proofs.CourseSteps.{Stands, IsKeptStanding, film_written_is, all_kept, slot_asks, film_sent}
-use Rattle.connection_laws.proofs.CourseSteps.{Finished, Quiet, Ended, finish_by}
-use Rattle.connection_laws.proofs.StationAnswers.{SlotTo, SlotSent, slot_to}
-use Rattle.connection_laws.proofs.CourseInduction.{Piece, AnsweredRequest, begin_of}
+use Rattle.connection_laws.proofs.CourseSteps.{Finished, finish_by}
+use Rattle.connection_laws.proofs.StationAnswers.{SlotTo, slot_to}
+use Rattle.connection_laws.proofs.CourseInduction.{event_piece, Piece, AnsweredRequest}
 use Rattle.conn.proofs.StationAnswers.{ComesAs, BytesCame, SlotCame}
 use Rattle.connection_laws.proofs.Lists.{joins_parts}
 
@@ -24,9 +24,6 @@ abbrev IsFrom : ℕ → List PlacedText → Type 0
 IsFrom place [] = ⊤
 IsFrom place (placed ∷ texts) = place ≤ placed.place
 
-from_lower : (low place : ℕ) (texts : List PlacedText) → low ≤ place → IsFrom place texts → IsFrom low texts
-from_lower low place texts given given' = grind arith
-
 places_from : (place : ℕ) (parts : List SentPart) → IsFrom place (placed_texts place parts)
 places_from place [] = tt
 places_from place (Film bytes ∷ parts) = grind (arith, places_from (place + length bytes) parts)
@@ -34,12 +31,7 @@ places_from place (Text text ∷ parts) = omega arith
 
 woven_front : (place : ℕ) (bytes film : List ℕ) (texts : List PlacedText) → IsFrom (place + length bytes) texts
     → insert_texts place (bytes ++ film) texts ≡ bytes ++ insert_texts (place + length bytes) film texts
-woven_front place bytes film [] is = refl
-woven_front place bytes film (placed ∷ texts) is =
-    let n : ℕ = placed.place - (place + length bytes) in
-    let far : placed.place - place ≡ length bytes + n = omega (arith, is) in
-    let rest : List ℕ = placed.text ++ insert_texts placed.place (drop n film) texts in
-    cc (far, drop-append-add bytes film n, take-append-add bytes film n, append_assoc bytes (take n film) rest)
+woven_front place bytes film texts given = search (arith, drop-append-add, take-append-add, append_assoc)
 
 pub parts_woven : (place : ℕ) (parts : List SentPart)
     → parts_bytes parts ≡ insert_texts place (film_bytes parts) (placed_texts place parts)
@@ -47,8 +39,7 @@ parts_woven place [] = refl
 parts_woven place (Film bytes ∷ parts) =
     let at : ℕ = place + length bytes in
     cc (parts_woven at parts, woven_front place bytes (film_bytes parts) (placed_texts at parts) (places_from at parts))
-parts_woven place (Text text ∷ parts) =
-    let none : 0 ≡ place - place = omega arith in cc (parts_woven place parts, none)
+parts_woven place (Text text ∷ parts) = search (arith, parts_woven place parts)
 
 -- all bytes of the parts are those of the rounds
 parts_bytes_append : (xs ys : List SentPart) → parts_bytes (xs ++ ys) ≡ parts_bytes xs ++ parts_bytes ys
@@ -83,28 +74,23 @@ texts_append (Film bytes ∷ xs) ys = texts_append xs ys
 texts_append (Text text ∷ xs) ys = ap (λ ts. text ∷ ts) (texts_append xs ys)
 
 -- these texts were sent, and these are replies to requests that were processed meanwhile
-abbrev Replies : SessionState → List (List ℕ) → List (List ℕ) → SessionState → Type 0
-Replies old sent replies new = sent ++ waiting_reply new ≡ waiting_reply old ++ replies
-
-waiting_same : (a b : SessionState) → b ≡ a → Replies a [] [] b
-waiting_same a b same = ap waiting_reply same ∙ sym (append-nil (waiting_reply a))
+abbrev RepliesOn : SessionState → Piece → SessionState → Type 0
+RepliesOn old piece new = texts_in piece.parts ++ waiting_reply new ≡ waiting_reply old ++ piece.replies
 
 -- a request
-waits_none : (s : SessionState) → s.waits ≡ false → waiting_reply s ≡ []
-waits_none s none = ap (λ w. if w then s.text ∷ [] else []) none
-
 reply_cases : (goes : Bool) (s : SessionState) → s.waits ≡ true
     → texts_in (if goes then Text s.text ∷ [] else []) ++ waiting_reply (if goes then sent_reply s else s) ≡ s.text ∷ []
 reply_cases goes s given = grind arith
 
 answered_replies : {old new : Stage} (request : AnsweredRequest old new) → Stands old.session
-    → Replies old.session (texts_in request.parts) (request.replied.answered.text ∷ []) new.session
+    → texts_in request.parts ++ waiting_reply new.session
+    ≡ waiting_reply old.session ++ (request.replied.answered.text ∷ [])
 answered_replies {old} request stands =
     let after = answered_after replied.heard stands.rest in cc (
       replied.new_is,
       replied.parts_are,
       reply_cases (can_reply replied.answered) replied.answered after.waits,
-      waits_none old.session replied.next.replied,
+      ap (λ w. if w then old.session.text ∷ [] else []) replied.next.replied,
     )
   where
     open request use {outcome, parts, replied}
@@ -118,15 +104,12 @@ sent_texts : {old s : SessionState} {slot : ℕ} {parts : List SentPart} → Slo
 sent_texts given = grind arith
 
 comes_replies : {old opened : Stage} {round : Round} → ComesAs old round opened → Stands old.session
-    → Replies old.session (texts_in round.due) [] opened.session
-comes_replies {old} BytesCame stands = waiting_same old.session old.session refl
+    → RepliesOn old.session (event_piece old.session round) opened.session
+comes_replies {old} BytesCame stands = sym (append-nil (waiting_reply old.session))
 comes_replies {old} (SlotCame {slot = slot} finish) stands =
     let to = slot_to old.session slot in
     let finished = finish_by (slot_asks to stands.rest) refl finish in
     cc (finished_waiting finished, sent_texts to, append-nil (waiting_reply old.session))
-
-abbrev RepliesOn : SessionState → Piece → SessionState → Type 0
-RepliesOn old piece new = Replies old (texts_in piece.parts) piece.replies new
 
 replies_kept : IsKeptStanding RepliesOn
 replies_kept = grind (arith, texts_append, append_assoc, answered_replies, comes_replies)

@@ -1,26 +1,22 @@
 -- What a request asks and how it is answered, case by case, and what that makes of a session: what is sent of a film,
 -- and the play that begins or ends.
-use Rattle.std.proofs.Common.{◌≡◌, ℕ, Bool, true, List, None, refl, ◌<◌, ◌^◌, if◌then◌else◌, [], ◌∷◌, false, true≢false}
-use Rattle.std.proofs.Common.{sym, ap, ◌∙◌, ◌-◌, arith}
+use Rattle.std.proofs.Common.{◌≡◌, ℕ, Bool, true, List, None, refl, ◌<◌, ◌^◌, [], ◌∷◌, false, ◌-◌, arith}
 use Rattle.connection_laws.proofs.Terms.{PlacedEntry, Setup, next_boundary, IsPacerState, PacerState, Segment, Ask}
-use Rattle.connection_laws.proofs.Terms.{AfterHalt, Awaited, Play, Halt, Nothing, Prepared, Init, Ready, Playing}
-use Rattle.connection_laws.proofs.Terms.{Stopping, after_admission, after_full, after_halt, after_look, after_offer}
-use Rattle.connection_laws.proofs.Terms.{after_overflow, is_answered, SessionState, OfferNote, look_in, HasHeard}
-use Rattle.connection_laws.proofs.Terms.{IsAskAnswered, Outcome, Unasked, Entered, WasFull, Offered, entry_in}
-use Rattle.connection_laws.proofs.Terms.{run_pieces, Answer, Admitted, Halted, Looked, Overflow, play_admitted, play_of}
-use Rattle.connection_laws.proofs.Terms.{Done, State, state_once_halted, StationRequest, plays_admitted, plays_begun}
-use Rattle.connection_laws.proofs.Terms.{booked_by, kept_by, kept_with, play_by}
+use Rattle.connection_laws.proofs.Terms.{Awaited, Play, Halt, Nothing, Prepared, Init, Ready, Playing, Stopping}
+use Rattle.connection_laws.proofs.Terms.{after_admission, after_full, after_halt, after_look, after_offer}
+use Rattle.connection_laws.proofs.Terms.{after_overflow, SessionState, OfferNote, look_in, HasHeard, IsAskAnswered}
+use Rattle.connection_laws.proofs.Terms.{Outcome, Unasked, Entered, WasFull, Offered, entry_in, run_pieces, Answer}
+use Rattle.connection_laws.proofs.Terms.{Admitted, Halted, Looked, Overflow, play_admitted, play_of, State}
+use Rattle.connection_laws.proofs.Terms.{StationRequest, plays_begun, booked_by, kept_with, play_by}
 use Rattle.early_start.specs.StartSearch.{Offers}
 use Rattle.pacer.specs.PacerStates.{new_pacer_state}
-use Rattle.session.specs.declared.commands.Ask.TheVariants.{Reply as AskReply, Play as AskPlay, Halt as AskHalt}
-use Rattle.session.specs.declared.commands.Ask.TheVariants.{Look as AskLook, Offer as AskOffer}
+use Rattle.session.specs.declared.commands.Ask.TheVariants.{Play as AskPlay, Look as AskLook, Offer as AskOffer}
 use Rattle.session.specs.declared.states.Awaited.TheVariants.{Look, Offer}
-use Rattle.session.specs.declared.states.Play.{Play as Played}
 use Rattle.session_laws.proofs.RunLemmas.{RunsAs, Replies, SetsUp, AsksPlay, Stops, AsksLook, AsksOffer, runs_as}
 use Rattle.session_laws.proofs.RunLemmas.{AskedHalt, AskedPlay}
 use Rattle.conn.specs.InputSteps.{IsPlayAnswered}
-use Rattle.conn.proofs.StationAnswers.{AnswersAs, NoneAsked, PlayAdmitted, PlayOverflowed, PlayFull, PlayHalted}
-use Rattle.conn.proofs.StationAnswers.{LookMade, LookFull, OfferMade, IsPlayEntry, IsHaltEntry, answers_as}
+use Rattle.conn.proofs.StationAnswers.{AnswersAs, PlayAdmitted, PlayOverflowed, PlayFull, LookMade, LookFull, OfferMade}
+use Rattle.conn.proofs.StationAnswers.{IsPlayEntry, IsHaltEntry, answers_as}
 use Rattle.admission.specs.declared.entries.Command.TheVariants.{Halt as HaltCommand}
 use Rattle.slot_calendar.specs.Plays.{Play as Booked}
 use Rattle.station.specs.Ledgers.{look_at}
@@ -72,61 +68,39 @@ pub data RequestAnswer : SessionState → SessionState → Outcome → SessionSt
       → RequestAnswer old (asking_for old (Look sequence) old.text (old.looks_left - 1)) (Entered placed)
       (after_look (asking_for old (Look sequence) old.text (old.looks_left - 1)) placed.place now at booked)
   JournalFull : {old : SessionState} {awaited : Awaited} {text : List ℕ} {looks more entries live : ℕ}
-      → looks ≡ old.looks_left - look_in awaited
-      → RequestAnswer old (asking_for old awaited text looks) (WasFull more entries live)
-      (after_full (asking_for old awaited text looks) entries live)
+      → looks ≡ old.looks_left - look_in awaited → RequestAnswer old (asking_for old awaited text looks)
+      (WasFull more entries live) (after_full (asking_for old awaited text looks) entries live)
   OfferAnswer : {old : SessionState} {sequence at_slot : ℕ} {note : OfferNote}
       → RequestAnswer old (asking_for old (Offer sequence) old.text old.looks_left) (Offered at_slot note)
       (after_offer (asking_for old (Offer sequence) old.text old.looks_left) note)
 
 -- a request is answered so, by what it asked of the station
-abbrev Answers : Outcome → SessionState → SessionState → Ask → SessionState → Type 0
-Answers outcome new old ask asking = IsAskAnswered asking ask outcome new → AnswersAs asking ask outcome new
-    → RequestAnswer old asking outcome new
+abbrev Answers : SessionState → Ask → SessionState → Type 0
+Answers old ask asking = (outcome : Outcome) (new : SessionState) → IsAskAnswered asking ask outcome new
+    → AnswersAs asking ask outcome new → RequestAnswer old asking outcome new
 
-own_answer : (old : SessionState) (text : List ℕ) (tearing : Bool) (outcome : Outcome) (new : SessionState)
-    → Answers outcome new old AskReply (record old { text = text; waits = true; tearing = tearing })
-own_answer old text tearing outcome new is NoneAsked = OwnReply
-
-setup_answer : (old : SessionState) (text : List ℕ) (setup : Setup) (outcome : Outcome) (new : SessionState)
-    → Answers outcome new (record old { state = Init }) AskReply
-    (record old { text = text; waits = true; state = Ready setup None })
-setup_answer old text setup outcome new is NoneAsked = SetupReply old
-
-play_answer : {base : SessionState} (play : AskedPlay base) (outcome : Outcome) (new : SessionState)
-    → Answers outcome new (before_play play) (AskPlay play.prepared.plan) (at_play play)
+play_answer : {base : SessionState} (play : AskedPlay base)
+    → Answers (before_play play) (AskPlay play.prepared.plan) (at_play play)
 play_answer play outcome new is (PlayAdmitted entry answered) = Admission play entry answered
 play_answer play outcome new is (PlayOverflowed entry) = Refusal play entry
 play_answer play outcome new is (PlayFull more) = JournalFull {old = before_play play} (omega arith)
 
-halt_answer : {base : SessionState} (halt : AskedHalt base) (outcome : Outcome) (new : SessionState)
-    → Answers outcome new (before_halt halt) (AskHalt halt.keep) (at_halt halt)
-halt_answer halt outcome new is (PlayHalted entry) = HaltMade halt entry
-
-look_answer : (old : SessionState) (sequence : ℕ) (outcome : Outcome) (new : SessionState)
-    → Answers outcome new old (AskLook old.heard) (asking_for old (Look sequence) old.text (old.looks_left - 1))
+look_answer : (old : SessionState) (sequence : ℕ)
+    → Answers old (AskLook old.heard) (asking_for old (Look sequence) old.text (old.looks_left - 1))
 look_answer old sequence outcome new is (LookMade looked) = LookAnswer is.0 looked
 look_answer old sequence outcome new is LookFull = JournalFull refl
 
-offer_answer : {plan : List Segment} {offers : Offers} (old : SessionState) (sequence : ℕ) (outcome : Outcome)
-    (new : SessionState)
-    → Answers outcome new old (AskOffer plan offers) (asking_for old (Offer sequence) old.text old.looks_left)
+offer_answer : {plan : List Segment} {offers : Offers} (old : SessionState) (sequence : ℕ)
+    → Answers old (AskOffer plan offers) (asking_for old (Offer sequence) old.text old.looks_left)
 offer_answer old sequence outcome new is OfferMade = OfferAnswer
 
-answer_of : {old asking new : SessionState} {ask : Ask} {outcome : Outcome} → RunsAs old ask asking
-    → Answers outcome new old ask asking
-answer_of {old} {new = new} {outcome = o} (Replies text tearing ask_is is) =
-    rw (ask_is, is) (own_answer old text tearing o new)
-answer_of {old} {new = new} {outcome = o} (SetsUp text setup init ask_is is) =
-    rw (ask_is, is) (rw init (setup_answer old text setup o new))
-answer_of {old} {new = new} {outcome = o} (AsksPlay play ask_is is) =
-    rw (ask_is, is) (rw play.ready (play_answer play o new))
-answer_of {old} {new = new} {outcome = o} (Stops halt ask_is is) =
-    rw (ask_is, is) (rw halt.playing (halt_answer halt o new))
-answer_of {old} {new = new} {outcome = o} (AsksLook sequence ask_is is) =
-    rw (ask_is, is) (look_answer old sequence o new)
-answer_of {old} {new = new} {outcome = o} (AsksOffer plan offers sequence ask_is is) =
-    rw (ask_is, is) (offer_answer old sequence o new)
+answer_of : {old asking : SessionState} {ask : Ask} → RunsAs old ask asking → Answers old ask asking
+answer_of {old} (Replies text tearing ask_is is) = rw (ask_is, is) (grind (arith, OwnReply))
+answer_of {old} (SetsUp text setup init ask_is is) = rw (ask_is, is) (rw init (grind (arith, SetupReply)))
+answer_of (AsksPlay play ask_is is) = rw (ask_is, is) (rw play.ready (play_answer play))
+answer_of (Stops halt ask_is is) = rw (ask_is, is) (rw halt.playing (grind (arith, HaltMade)))
+answer_of {old} (AsksLook sequence ask_is is) = rw (ask_is, is) (look_answer old sequence)
+answer_of {old} (AsksOffer plan offers sequence ask_is is) = rw (ask_is, is) (offer_answer old sequence)
 
 pub request_answer : {old new : SessionState} {message : List ℕ} {outcome : Outcome}
     (heard : HasHeard old message outcome new) → RequestAnswer old heard.asking outcome new
@@ -217,21 +191,11 @@ pub looked_still : {sequence : ℕ} {placed : PlacedEntry} (slot : ℕ) → plac
     → IsStill (Look sequence) (Entered placed)
 looked_still {placed = placed} slot command = grind arith
 
--- a halt's answer
-stopped_sends : (setup : Setup) (play : Played) (next : AfterHalt) → is_answered next ≡ true
-    → sends_in (state_once_halted setup play next) ≡ Ending play.pacer
-stopped_sends setup play next given = grind arith
-
 -- a play that begins is this one
 pub begun_is : {old new : SessionState} {asked : Awaited} {outcome : Outcome} (begins : Begins old asked outcome new)
     (askings : List StationRequest) → plays_begun asked outcome askings
     ≡ play_by begins.prepared begins.admitted.start askings ∷ []
 begun_is begins askings = rw (begins.outcome_is, begins.asked_is, begins.admitted.answer)
-
--- a halt that is answered leaves the rest of the play
-ends_turn : {base : SessionState} {placed : PlacedEntry} (halt : AskedHalt base) → IsHaltEntry halt.keep placed
-    → TurnsAs (before_halt halt) (Halt halt.keep halt.next) (Entered placed) (after_halt (at_halt halt) placed.place)
-ends_turn {placed} halt entry = grind arith
 
 -- by what was asked and answered
 turn_of : {old asking new : SessionState} {outcome : Outcome} → RequestAnswer old asking outcome new
@@ -249,7 +213,7 @@ turn_of (Admission {placed = placed} {start = start} play entry answered) =
       pacing = answered.2.pacing;
     })
 turn_of (Refusal play entry) = Stays refl (refused_still entry refl)
-turn_of (HaltMade halt entry) = ends_turn halt entry
+turn_of (HaltMade halt entry) = grind (arith, halt)
 turn_of (LookAnswer command looked) = Stays refl (looked_still _ command)
 turn_of _ = Stays refl (no_entry _ refl)
 
@@ -264,11 +228,5 @@ answered_after heard rest = by-answer (request_answer heard) rest
   where
     by-answer : {old asking new : SessionState} {outcome : Outcome} → RequestAnswer old asking outcome new
         → old.awaited ≡ Nothing → IsAfter old new
-    by-answer OwnReply rest = record { heard = refl; awaited = rest; waits = refl }
-    by-answer (SetupReply old) rest = record { heard = refl; awaited = rest; waits = refl }
-    by-answer (HaltMade {base = base} halt entry) rest = record {
-      heard = refl;
-      awaited = refl;
-      waits = ap (λ b. if b then true else base.waits) halt.told;
-    }
-    by-answer _ rest = record { heard = refl; awaited = refl; waits = refl }
+    by-answer (HaltMade halt entry) rest = search arith
+    by-answer _ rest = assumption

@@ -1,19 +1,14 @@
-use Rattle.std.proofs.Common.{arith}
 -- Requests other than PLAY begin no play. A connection that is asked for SETUP alone, before PLAY, plays nothing; where
 -- SETUP was answered 200 it settled what was wished.
+use Rattle.std.proofs.Common.{arith, ℕ, ◌≡◌, ◌≢◌, List, [], ◌++◌, codes, if◌then◌else◌, Bool, false, None, subst}
 use Rattle.std.specs.Prelude.{⊤}
-use Rattle.std.proofs.Common.{ℕ, ◌≡◌, ◌≢◌, List, [], ◌++◌, codes, refl, ap, ◌∙◌, if◌then◌else◌, Bool, true, false, None}
-use Rattle.std.proofs.Common.{sym, subst}
-use Rattle.std.proofs.lemmas.Bool.{true≢false}
-use Rattle.connection_laws.proofs.Terms.{SessionState, awaited_answer_of, Outcome, Stage, IsAskAnswered, Unasked}
-use Rattle.connection_laws.proofs.Terms.{Course, course_plays, StationRequest, plays_begun, plays_of, Stored}
-use Rattle.connection_laws.proofs.Terms.{request_head, setup_parts, film_url, setup_text, Wish, Ask, Nothing, Settings}
-use Rattle.connection_laws.proofs.Terms.{StreamSource, State, Init, Ready, Playing, Stopping, Names, after_play}
-use Rattle.connection_laws.proofs.Terms.{can_reply, is_sending, is_taken, sent_reply, sent_slot, after_stop, Round}
+use Rattle.connection_laws.proofs.Terms.{SessionState, Outcome, Stage, IsAskAnswered, Course, course_plays}
+use Rattle.connection_laws.proofs.Terms.{StationRequest, plays_begun, plays_of, Stored, request_head, setup_parts}
+use Rattle.connection_laws.proofs.Terms.{film_url, setup_text, Wish, Ask, Nothing, Settings, StreamSource, State, Init}
+use Rattle.connection_laws.proofs.Terms.{Ready, Names, can_reply, is_sending, sent_reply, Round}
 use Rattle.session.specs.RefusalOrder.{IsReadAs}
 use Rattle.rtsp_text.specs.declared.requests.Request.{Request}
 use Rattle.connection_laws.proofs.CourseSteps.{Stands, request_turns, request_stands, stands_by, event_step}
-use Rattle.connection_laws.proofs.CourseSteps.{first_stands}
 use Rattle.session_laws.proofs.PlayInReadyLemmas.{play_started}
 use Rattle.session.proofs.InitialStateLemmas.{heard_by}
 use Rattle.connection_laws.proofs.BookedPlays.{comes_none}
@@ -22,7 +17,7 @@ use Rattle.session.specs.declared.commands.Ask.TheVariants.{Reply}
 use Rattle.connection_laws.proofs.ClientSetups.{IsSettled, settled_by, setup_is, Beginning}
 use Rattle.session_laws.proofs.SetupLemmas.{SetupHeard, Refused, Settled, setup_heard}
 use Rattle.connection_laws.proofs.CourseInduction.{AnsweredRequest, Piece, GoesBack, course_back, rounds_requests}
-use Rattle.conn.proofs.StationAnswers.{ComesAs, BytesCame, SlotCame}
+use Rattle.conn.proofs.StationAnswers.{ComesAs}
 use Rattle.connection_laws.proofs.Lists.{Each}
 
 abbrev pub IsNoPlay : List ℕ → Type 0
@@ -86,11 +81,6 @@ pub record IsWaiting (b : Beginning) (s : SessionState) : Type 0 where
 abbrev unsent_part : SessionState → SessionState
 unsent_part s = record s { heard = 0 }
 
-heard_on : (old : SessionState) (slot : ℕ) (taken sending : Bool) → sending ≡ false → unsent_part
-    (if taken then (if sending then after_play (sent_slot old slot) else record old { heard = slot }) else old)
-    ≡ unsent_part old
-heard_on old slot taken sending given = grind arith
-
 comes_same : {old opened : Stage} {round : Round} → ComesAs old round opened → old.session.awaited ≡ Nothing
     → is_sending old.session.state ≡ false → unsent_part opened.session ≡ unsent_part old.session
 comes_same given given' given'' = grind arith
@@ -113,13 +103,7 @@ setup_waits : {b : Beginning} {old asking : SessionState} {ask : Ask} → IsWait
 setup_waits waits (Refused text reply is) = grind arith
 setup_waits {b} waits (Settled setup text authority reply is asks names) =
     let N : Ground → Type 0 = λ g. Names g.films (film_url b.wish ++ codes "/video") authority setup.film in
-    let settled = settled_by b asks (subst N waits.still.ground names) in (
-      reply,
-      record {
-        ground = ap ground_of is ∙ waits.still.ground;
-        unbegun = subst (IsUnbegun b.wish b.start.films) (sym (ap (λ (s : SessionState). s.state) is)) (refl, settled);
-      },
-    )
+    let settled = settled_by b asks (subst N waits.still.ground names) in grind (arith, settled)
 
 -- SETUP has a reply of the session's own
 pub setup_asked : {b : Beginning} {old new : Stage} (request : AnsweredRequest old new)
@@ -138,11 +122,9 @@ answered_waits {b} request is waits =
     let heard = replied.heard in
     let still = setup_asked request is waits in
     let same = reply_same heard.asking heard.ask outcome replied.answered still.0 heard.answered in
-    let after = replied_waits (can_reply replied.answered) replied.answered
-    (rw same still.1) in
     record {
       stands = request_stands request waits.stands;
-      still = rw replied.new_is after;
+      still = rw replied.new_is (replied_waits (can_reply replied.answered) replied.answered (rw same still.1));
     }
   where
     open request use {outcome, replied}

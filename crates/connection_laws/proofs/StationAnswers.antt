@@ -1,8 +1,7 @@
-use Rattle.std.proofs.Common.{arith}
 -- What the station can answer, case by case, in a slot and as a connection ends; and the session after each answer.
-use Rattle.std.proofs.Common.{◌≡◌, ℕ, ◌^◌, ◌<◌, List, Option, Some, None, refl, ap, sym, ◌&&◌, if◌then◌else◌, Bool}
-use Rattle.std.proofs.Common.{nat_lt, nat_le, [], true, false}
-use Rattle.std.proofs.lemmas.Bool.{and_parts, ltb-true}
+use Rattle.std.proofs.lemmas.Grind.{common_steps}
+use Rattle.std.proofs.Common.{arith, ◌≡◌, ℕ, ◌<◌, List, Option, Some, None, refl, ap, sym, ◌&&◌, if◌then◌else◌, Bool}
+use Rattle.std.proofs.Common.{[], true, false}
 use Rattle.connection_laws.proofs.Terms.{Answer, Admitted, Halted, Looked, Overflow, PlacedEntry, Ask, AfterHalt}
 use Rattle.connection_laws.proofs.Terms.{Awaited, Halt, after_admission, after_full, after_halt, after_look}
 use Rattle.connection_laws.proofs.Terms.{after_offer, after_overflow, after_slot, after_play, is_sending, sent_slot}
@@ -10,7 +9,7 @@ use Rattle.connection_laws.proofs.Terms.{OpenBooking, SessionState, awaited_answ
 use Rattle.connection_laws.proofs.Terms.{HaltAnswer, IsClosed, Outcome, Unasked, Entered, WasFull, Offered, SentPart}
 use Rattle.connection_laws.proofs.Terms.{slot_parts, due_parts}
 use Rattle.conn.proofs.StationAnswers.{AnswersAs, PlayAdmitted, PlayOverflowed, PlayHalted, LookMade, FinishesAs}
-use Rattle.conn.proofs.StationAnswers.{NothingLeft, DoneHalted, finishes_as}
+use Rattle.conn.proofs.StationAnswers.{finishes_as}
 
 -- the session after an answer
 abbrev after_entry : SessionState → PlacedEntry → Answer → SessionState
@@ -32,10 +31,6 @@ answer_leaves {old} (PlayOverflowed {placed = p} entry) = ap (after_entry old p)
 answer_leaves {old} (PlayHalted {placed = p} entry) = ap (after_entry old p) (sym entry.answer_is)
 answer_leaves {old} (LookMade {placed = p} is) = ap (after_entry old p) (sym is)
 answer_leaves _ = refl
-
-pub finish_leaves : {s new : SessionState} {asks : AwaitedAnswer} {outcome : Outcome} → FinishesAs s asks outcome new
-    → new ≡ after_outcome s outcome
-finish_leaves given = grind arith
 
 -- what a halt was asked for
 pub halt_of : {keep : ℕ} (awaited : Awaited) → awaited_answer_of awaited ≡ HaltAnswer keep
@@ -67,5 +62,4 @@ slot_by {taken = true} {sending = false} later is = SlotIdle is (later refl)
 slot_by {taken = false} later is = SlotPast
 
 pub slot_to : (old : SessionState) (slot : ℕ) → SlotTo old slot (after_slot old slot) (slot_parts old slot)
-slot_to old slot =
-    slot_by (λ taken. ltb-true old.heard slot (and_parts (nat_lt old.heard slot) (nat_le slot (2 ^ 62)) taken).0) refl
+slot_to old slot = grind (arith, common_steps, slot_by)

@@ -8,9 +8,8 @@ use Rattle.connection_laws.specs.Courses.{Course, rounds_bytes}
 -- After a course came this event, and then these elements were processed. What was sent is all that
 -- the course sent, and a prefix of what the course sends that also has this event and these
 -- elements.
-pub record IsCutShort (course : Course) (event : IoEvent) (takings : List ElementStep) (sent : List
-    ℕ)
-    : Type 0 where
+pub record IsCutShort (course : Course) (event : IoEvent) (takings : List ElementStep)
+    (sent : List ℕ) : Type 0 where
   pub longer : Course
   pub films : longer.films ≡ course.films
   pub settings : longer.settings ≡ course.settings

@@ -1,6 +1,6 @@
 -- What a connection's report notes: its plays, and the slots that were missed.
-use Rattle.std.specs.Prelude.{ℕ, ◌+◌, ◌&&◌, if◌then◌else◌, List, [], ◌∷◌, ◌++◌, length, map}
-use Rattle.std.specs.Prelude.{Option, Some, None}
+use Rattle.std.specs.Prelude.{ℕ, ◌+◌, ◌&&◌, if◌then◌else◌, List, [], ◌∷◌, ◌++◌, length, map, Option}
+use Rattle.std.specs.Prelude.{Some, None}
 use Rattle.vod_base.specs.Links.{IoEvent, HeardSlot}
 use Rattle.slot_calendar.specs.Plays.{Play as Booked, truncated_play}
 use Rattle.film_run.specs.declared.runs.Run.{Run}

@@ -1,7 +1,7 @@
 -- Which run of a film each play of a connection sends, and from where on (RFC 2326 sections 10.5
 -- and 10.6).
-use Rattle.std.specs.Prelude.{ℕ, ◌≡◌, ◌+◌, ◌%◌, ◌^◌, ◌⊎◌, ⊤, List, [], ◌∷◌, slice_index}
-use Rattle.std.specs.Prelude.{Option, Some, None}
+use Rattle.std.specs.Prelude.{ℕ, ◌≡◌, ◌+◌, ◌%◌, ◌^◌, ◌⊎◌, ⊤, List, [], ◌∷◌, slice_index, Option}
+use Rattle.std.specs.Prelude.{Some, None}
 use Rattle.rtp_pack.specs.declared.reports.Identity.{Identity}
 use Rattle.film_frames.specs.FramedRuns.{FramedRun, frames_before, octets_before, run_pieces}
 use Rattle.session.specs.Laws.{GoesOn}

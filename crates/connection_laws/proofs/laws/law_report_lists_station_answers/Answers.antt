@@ -1,4 +1,4 @@
-use Rattle.connection_laws.proofs.ReceiptNotes.{offers_told, receipts_told}
+use Rattle.connection_laws.proofs.CourseNotes.{offers_told, receipts_told}
 use Rattle.connection_laws.proofs.laws.law_report_lists_station_answers.Goals as goal
 
 pub returns : goal.returns
