@@ -10,12 +10,26 @@ use super::*;
 use crate::laws::law_look_finds_whole_requests;
 use interleave::{Demux, Step};
 use std::alloc::Global;
+use std::process::Abort;
 use std::test::Fail;
 
-/// The complete message at the start of the waiting bytes.
-fn first_message(demux: &mut Demux) -> Option<&[u8]>
+/// The part of a row at this place. The parts have `@` between them.
+fn part(row: &str, place: usize) -> &str {
+    row.split('@').nth(place).unwrap_or("")
+}
+
+/// The number that a text writes, if it does.
+fn number(text: &str) -> Option<u64> {
+    text.parse().ok()
+}
+
+/// The message at the start of a text, which is all that waits.
+fn message_in<'a>(demux: &'a mut Demux, text: &str) -> Option<&'a [u8]>
     ensures { IfSome result (λ message. IsMessageLength message.now (length message.now)) }
 {
+    demux.drop_front(demux.waiting().len());
+    // Where the text doesn't fit, nothing waits, and so there is no message.
+    let _ = demux.put(text.as_bytes());
     match demux.look() {
         Ok(Step::Request(total)) => {
             let waiting = demux.waiting();
@@ -26,339 +40,231 @@ fn first_message(demux: &mut Demux) -> Option<&[u8]>
     }
 }
 
-/// The message at the start of a text.
-fn message_in<'a>(demux: &'a mut Demux, text: &str) -> Result<&'a [u8], Fail>
-    ensures { IfOk result (λ message. IsMessageLength message.now (length message.now)) }
+/// What the rows of a table are about.
+#[derive(Clone, Copy)]
+enum Kind {
+    Fault,
+    Request,
+    Sequence,
+    UrlBytes,
+    Reply,
+    Required,
+    Refusal,
+    Printed,
+    Written,
+}
+
+/// What the rows of a table are read and written with.
+#[derive(Drop)]
+struct Tools {
+    demux: Demux,
+    reply: Reply,
+}
+
+/// Whether this is the fault of a message, and the number in its CSeq, as `Debug` prints them.
+fn is_fault(alloc: Global, message: &[u8], want: &str) -> bool
+    requires { IsMessageLength message.now (length message.now) }
 {
-    demux.put(text.as_bytes())?;
-    match first_message(demux) {
-        Some(message) => Ok(message),
-        None => Err(Fail::from("no whole message")),
+    let Err(fault) = read_request(message) else {
+        return false;
+    };
+    let sequence = sequence_of(message);
+    match format!(in alloc; "{fault:?} {sequence:?}") {
+        Ok(found) => found.as_str() == want,
+        Err(_) => false,
     }
 }
 
-/// Whether a text begins with a message that has this fault, and this number in its CSeq.
-fn is_refused(
-    alloc: Global,
-    text: &str,
-    fault: RequestFault,
-    sequence: Option<u64>,
-) -> Result<bool, Fail> {
-    let mut demux = Demux::new(alloc)?;
-    let message = message_in(&mut demux, text)?;
-    let same = sequence_of(message) == sequence;
-    Ok(same && read_request(message).is_err_and(|found| found == fault))
-}
-
-/// Whether a message with this first line has this fault.
-fn is_line_refused(alloc: Global, line: &str, fault: RequestFault) -> Result<bool, Fail> {
-    let text = format!(in alloc; "{line}\ncseq: 7\n\n")?;
-    is_refused(alloc, text.as_str(), fault, Some(7))
-}
-
-const OTHER_VERSIONS: [&str; 4] = [
-    "OPTIONS * RTSP/2.0",
-    "OPTIONS * RTSP/1.1",
-    "OPTIONS * RTSP/01.0",
-    "OPTIONS * RTSP/10.00",
-];
-
-const BAD_LINES: [&str; 22] = [
-    "OPTIONS * HTTP/1.0",
-    "OPTIONS * rtsp/1.0",
-    "OPTIONS * RTSP/1",
-    "OPTIONS * RTSP/.0",
-    "OPTIONS * RTSP/1.",
-    "OPTIONS * RTSP/1.0.0",
-    "OPTIONS * RTSP/1.0 ",
-    "OPTIONS * RTSP/1.0\r\r",
-    "OPTIONS  * RTSP/1.0",
-    "OPTIONS *  RTSP/1.0",
-    "OPTIONS\t* RTSP/1.0",
-    " * RTSP/1.0",
-    "OPT.IONS * RTSP/1.0",
-    "OPTIONS ** RTSP/1.0",
-    "OPTIONS *",
-    "PLAY rtsp:// RTSP/1.0",
-    "PLAY rtsp:///a RTSP/1.0",
-    "PLAY rtsp:/h/a RTSP/1.0",
-    "PLAY http://h/a RTSP/1.0",
-    "PLAY rtsp://h/\u{7f} RTSP/1.0",
-    "PLAY rtsp://h/\u{e4} RTSP/1.0",
-    "PLAY rtsp://h/\u{2} RTSP/2.0",
-];
-
-#[test]
-fn refuses_request_lines(rt: HostRuntime) -> Result<(), Fail> {
-    for line in OTHER_VERSIONS {
-        let refused = is_line_refused(rt.alloc(), line, RequestFault::BadVersion)?;
-        assert!(rt; refused, "at {line:?}");
-    }
-    for line in BAD_LINES {
-        let refused = is_line_refused(rt.alloc(), line, RequestFault::BadLine)?;
-        assert!(rt; refused, "at {line:?}");
-    }
-    Ok(())
-}
-
-/// Header lines, their fault, and the number in their CSeq.
-const BAD_HEADS: [(&str, RequestFault, Option<u64>); 19] = [
-    (" CSeq: 1\r\n", RequestFault::BadHeader(1), None),
-    ("CSeq : 1\r\n", RequestFault::BadHeader(1), None),
-    (
-        "CSeq: 1\r\nUser Agent: x\r\n",
-        RequestFault::BadHeader(2),
-        Some(1),
-    ),
-    (
-        "CSeq: 1\r\nX: a\rb\r\n",
-        RequestFault::BadHeader(2),
-        Some(1),
-    ),
-    (
-        "CSeq: 1\r\nX: a\u{1}\r\nY\r\n",
-        RequestFault::BadHeader(2),
-        Some(1),
-    ),
-    (
-        "CSeq: 1\r\nX: a\u{7f}\r\n",
-        RequestFault::BadHeader(2),
-        Some(1),
-    ),
-    (
-        "X: 1\nX\nX:\nCSeq: 4\n",
-        RequestFault::BadHeader(2),
-        Some(4),
-    ),
-    ("X: 1\nY: 2\n: 3\n", RequestFault::BadHeader(3), None),
-    ("CSeq: 1a\n", RequestFault::NoSequenceNumber, None),
-    ("CSeq:\n", RequestFault::NoSequenceNumber, None),
-    ("CSeq: -1\n", RequestFault::NoSequenceNumber, None),
-    ("X: 1\n", RequestFault::NoSequenceNumber, None),
-    ("", RequestFault::NoSequenceNumber, None),
-    (
-        "CSeq: 18446744073709551616\n",
-        RequestFault::NoSequenceNumber,
-        None,
-    ),
-    (
-        "CSeq: 1a\r\ncseq:\t 12 \t\r\n",
-        RequestFault::NoSequenceNumber,
-        Some(12),
-    ),
-    (
-        "CSeq: x\r\nContent-Length: x\r\n",
-        RequestFault::NoSequenceNumber,
-        None,
-    ),
-    (
-        "CSeq: 3\r\nContent-Length: x\r\n",
-        RequestFault::BadLength,
-        Some(3),
-    ),
-    (
-        "CSeq: 3\r\ncontent-length:\r\n",
-        RequestFault::BadLength,
-        Some(3),
-    ),
-    (
-        "Content-Length: 1 2\r\nContent-Length: 0\r\nCSeq: 3\r\n",
-        RequestFault::BadLength,
-        Some(3),
-    ),
-];
-
-#[test]
-fn refuses_heads(rt: HostRuntime) -> Result<(), Fail> {
-    for (lines, fault, sequence) in BAD_HEADS {
-        let text = format!(in rt.alloc(); "OPTIONS * RTSP/1.0\r\n{lines}\r\n")?;
-        let refused = is_refused(rt.alloc(), text.as_str(), fault, sequence)?;
-        assert!(rt; refused, "at {lines:?}");
-    }
-    Ok(())
-}
-
-/// Messages with several faults, and the one that is answered.
-const MANY_FAULTS: [(&str, RequestFault); 4] = [
-    ("OPTIONS * RTSP\n x\n\n", RequestFault::BadLine),
-    ("OPTIONS * RTSP/2.0\n x\n\n", RequestFault::BadVersion),
-    ("OPTIONS * RTSP/1.0\n x\n\n", RequestFault::BadHeader(1)),
-    (
-        "OPTIONS * RTSP/1.0\nContent-Length: x\n\n",
-        RequestFault::NoSequenceNumber,
-    ),
-];
-
-#[test]
-fn refuses_in_order(rt: HostRuntime) -> Result<(), Fail> {
-    for (text, fault) in MANY_FAULTS {
-        assert!(rt; is_refused(rt.alloc(), text, fault, None)?, "at {text:?}");
-    }
-    Ok(())
-}
-
-/// A text, and what is read of the request that it begins with; the last two are a field's name and
-/// its value.
-struct RequestRow {
-    text: &'static str,
-    method: &'static str,
-    url: &'static str,
-    sequence: u64,
-    body: &'static str,
-    name: &'static str,
-    value: Option<&'static str>,
-}
-
-const REQUESTS: [RequestRow; 9] = [
-    RequestRow {
-        text: "OPTIONS * RTSP/1.0\ncseq: 7\n\n",
-        method: "OPTIONS",
-        url: "*",
-        sequence: 7,
-        body: "",
-        name: "CSeq",
-        value: Some("7"),
-    },
-    RequestRow {
-        text: "OPTIONS rtsp://127.0.0.1:8554/news.mpg RTSP/1.0\r\nCSeq: 1\r\n\
-            User-Agent: Lavf60.16.100\r\n\r\n",
-        method: "OPTIONS",
-        url: "rtsp://127.0.0.1:8554/news.mpg",
-        sequence: 1,
-        body: "",
-        name: "user-agent",
-        value: Some("Lavf60.16.100"),
-    },
-    RequestRow {
-        text: "OPTIONS RTSP://h RTSP/1.0\r\nCSeq: 1\r\nUser-Agent: GStreamer/1.22.0\r\n\
-            User-Agent: x\r\n\r\n",
-        method: "OPTIONS",
-        url: "RTSP://h",
-        sequence: 1,
-        body: "",
-        name: "User-Agent",
-        value: Some("GStreamer/1.22.0"),
-    },
-    RequestRow {
-        text: "DESCRIBE rtsp://127.0.0.1:8554/news.mpg RTSP/1.0\r\nAccept: application/sdp\r\n\
-            CSeq: 2\r\n\r\nPLAY",
-        method: "DESCRIBE",
-        url: "rtsp://127.0.0.1:8554/news.mpg",
-        sequence: 2,
-        body: "",
-        name: "Accept",
-        value: Some("application/sdp"),
-    },
-    RequestRow {
-        text: "SETUP rtsp://h/news.mpg/video RTSP/1.0\r\n\
-            Transport: RTP/AVP/UDP;unicast;client_port=5000-5001, \
-            RTP/AVP/TCP;unicast;interleaved=0-1\r\n\
-            CSeq: 3\r\n\r\n",
-        method: "SETUP",
-        url: "rtsp://h/news.mpg/video",
-        sequence: 3,
-        body: "",
-        name: "transport",
-        value: Some(
-            "RTP/AVP/UDP;unicast;client_port=5000-5001, RTP/AVP/TCP;unicast;interleaved=0-1",
-        ),
-    },
-    RequestRow {
-        text: "PLAY rtsp://h/news.mpg/ RTSP/1.0\r\nRange: npt=0.000-\r\nCSeq: 4\r\n\
-            Session: 0123456789abcdef\r\n\r\n",
-        method: "PLAY",
-        url: "rtsp://h/news.mpg/",
-        sequence: 4,
-        body: "",
-        name: "RANGE",
-        value: Some("npt=0.000-"),
-    },
-    RequestRow {
-        text: "GET_PARAMETER rtsp://h/news.mpg RTSP/1.0\r\nCSeq: 5\r\n\
-            Session:\t0123456789abcdef \t\r\n\r\n",
-        method: "GET_PARAMETER",
-        url: "rtsp://h/news.mpg",
-        sequence: 5,
-        body: "",
-        name: "Session",
-        value: Some("0123456789abcdef"),
-    },
-    RequestRow {
-        text: "GET_PARAMETER rtsp://h/n RTSP/1.0\r\nCSeq: 0006\r\nContent-Length: 8\r\n\r\n\
-            x-Bookedrest",
-        method: "GET_PARAMETER",
-        url: "rtsp://h/n",
-        sequence: 6,
-        body: "x-Booked",
-        name: "Scale",
-        value: None,
-    },
-    RequestRow {
-        text: "x-1 * RTSP/1.0\nX: a:b\nCSeq:7\nCSeq: 8\ncontent-length:02\n\nab",
-        method: "x-1",
-        url: "*",
-        sequence: 7,
-        body: "ab",
-        name: "x",
-        value: Some("a:b"),
-    },
-];
-
-/// Whether a message is read as a row says.
-fn is_request(message: &[u8], row: &RequestRow) -> bool
+/// Whether a message is read as its row says.
+fn is_request(message: &[u8], row: &str) -> bool
     requires { IsMessageLength message.now (length message.now) }
 {
     let Ok(request) = read_request(message) else {
         return false;
     };
-    let found = header(&request, row.name.as_bytes());
-    request.method == row.method.as_bytes()
-        && request.url == row.url.as_bytes()
-        && request.sequence == row.sequence
-        && request.body == row.body.as_bytes()
-        && message.starts_with(request.head)
-        && found == row.value.map(|value| value.as_bytes())
+    let body = part(row, 1).as_bytes();
+    let value = header(&request, part(row, 6).as_bytes()).unwrap_or(b"none");
+    let sequence = number(part(row, 5));
+    request.method == part(row, 3).as_bytes()
+        && request.url == part(row, 4).as_bytes()
+        && Some(request.sequence) == sequence
+        && sequence_of(message) == sequence
+        && request.body == body
+        && message.strip_prefix(request.head) == Some(body)
+        && part(row, 0).as_bytes().strip_prefix(message) == Some(part(row, 2).as_bytes())
+        && value == part(row, 7).as_bytes()
 }
 
-/// Whether the message that a text begins with is read as its row says.
-fn is_read(alloc: Global, row: &RequestRow) -> Result<bool, Fail> {
-    let mut demux = Demux::new(alloc)?;
-    let message = message_in(&mut demux, row.text)?;
-    Ok(sequence_of(message) == Some(row.sequence) && is_request(message, row))
+/// Whether what a row says of the message at the start of its text holds.
+fn is_message(alloc: Global, reply: &mut Reply, kind: Kind, message: &[u8], row: &str) -> bool
+    requires { IsMessageLength message.now (length message.now) }
+{
+    match kind {
+        Kind::Fault => is_fault(alloc, message, part(row, 1)),
+        Kind::Request => is_request(message, row),
+        Kind::Required => replies::is_option_refused(reply, message, part(row, 1)),
+        _ => replies::is_reply(read_reply(message), row),
+    }
 }
 
-#[test]
-fn reads_requests(rt: HostRuntime) -> Result<(), Fail> {
-    for row in &REQUESTS {
-        assert!(rt; is_read(rt.alloc(), row)?, "at {:?}", row.text);
+/// Whether what a row says holds.
+fn is_right(alloc: Global, tools: &mut Tools, kind: Kind, row: &str) -> bool {
+    let text = part(row, 0);
+    match kind {
+        Kind::Sequence => sequence_of(text.as_bytes()) == number(part(row, 1)),
+        Kind::UrlBytes => has_url_bytes(text.as_bytes()) == (part(row, 1) == "true"),
+        Kind::Refusal => replies::is_refusal(&mut tools.reply, row),
+        Kind::Printed => {
+            replies::is_refusal(&mut tools.reply, row)
+                && replies::is_printed(alloc, &tools.reply, part(row, 3))
+        }
+        Kind::Written => replies::is_written(&mut tools.reply, row),
+        _ => match message_in(&mut tools.demux, text) {
+            Some(message) => is_message(alloc, &mut tools.reply, kind, message, row),
+            None => false,
+        },
+    }
+}
+
+/// Compares each row of a table.
+fn check(rt: &impl Abort, alloc: Global, kind: Kind, rows: &str) -> Result<(), Fail> {
+    let demux = Demux::new(alloc)?;
+    let reply = Reply::new(alloc)?;
+    let mut tools = Tools { demux, reply };
+    for row in rows.split('|') {
+        assert!(rt; is_right(alloc, &mut tools, kind, row), "at {row:?}");
     }
     Ok(())
 }
 
-#[test]
-fn finds_sequences_in_heads(rt: HostRuntime) {
-    for (text, want) in [
-        ("", None),
-        ("CSeq: 3\r\n\r\n", None),
-        ("a\r\n\r\nCSeq: 3\r\n\r\n", None),
-        ("a\r\nCSeq: 3", Some(3)),
-        ("a\nX\nCSeq=1\ncSEQ:18446744073709551615\n", Some(u64::MAX)),
-    ] {
-        assert_eq!(rt; sequence_of(text.as_bytes()), want, "at {text:?}");
-    }
-}
+/// Messages, and the fault and the number in the CSeq of each, as `Debug` prints them.
+const BAD_LINES: &str = "\
+    OPTIONS * RTSP/2.0\ncseq: 7\n\n@BadVersion Some(7)|\
+    OPTIONS * RTSP/1.1\ncseq: 7\n\n@BadVersion Some(7)|\
+    OPTIONS * RTSP/01.0\ncseq: 7\n\n@BadVersion Some(7)|\
+    OPTIONS * RTSP/10.00\ncseq: 7\n\n@BadVersion Some(7)|\
+    OPTIONS * HTTP/1.0\ncseq: 7\n\n@BadLine Some(7)|\
+    OPTIONS * rtsp/1.0\ncseq: 7\n\n@BadLine Some(7)|\
+    OPTIONS * RTSP/1\ncseq: 7\n\n@BadLine Some(7)|\
+    OPTIONS * RTSP/.0\ncseq: 7\n\n@BadLine Some(7)|\
+    OPTIONS * RTSP/1.\ncseq: 7\n\n@BadLine Some(7)|\
+    OPTIONS * RTSP/1.0.0\ncseq: 7\n\n@BadLine Some(7)|\
+    OPTIONS * RTSP/1.0 \ncseq: 7\n\n@BadLine Some(7)|\
+    OPTIONS * RTSP/1.0\r\r\ncseq: 7\n\n@BadLine Some(7)|\
+    OPTIONS  * RTSP/1.0\ncseq: 7\n\n@BadLine Some(7)|\
+    OPTIONS *  RTSP/1.0\ncseq: 7\n\n@BadLine Some(7)|\
+    OPTIONS\t* RTSP/1.0\ncseq: 7\n\n@BadLine Some(7)|\
+    \x20* RTSP/1.0\ncseq: 7\n\n@BadLine Some(7)|\
+    OPT.IONS * RTSP/1.0\ncseq: 7\n\n@BadLine Some(7)|\
+    OPTIONS ** RTSP/1.0\ncseq: 7\n\n@BadLine Some(7)|\
+    OPTIONS *\ncseq: 7\n\n@BadLine Some(7)|\
+    PLAY rtsp:// RTSP/1.0\ncseq: 7\n\n@BadLine Some(7)|\
+    PLAY rtsp:///a RTSP/1.0\ncseq: 7\n\n@BadLine Some(7)|\
+    PLAY rtsp:/h/a RTSP/1.0\ncseq: 7\n\n@BadLine Some(7)|\
+    PLAY http://h/a RTSP/1.0\ncseq: 7\n\n@BadLine Some(7)|\
+    PLAY rtsp://h/\u{7f} RTSP/1.0\ncseq: 7\n\n@BadLine Some(7)|\
+    PLAY rtsp://h/\u{e4} RTSP/1.0\ncseq: 7\n\n@BadLine Some(7)|\
+    PLAY rtsp://h/\u{2} RTSP/2.0\ncseq: 7\n\n@BadLine Some(7)";
 
 #[test]
-fn judges_the_bytes_of_urls(rt: HostRuntime) {
-    for (text, want) in [
-        ("", true),
-        ("!~", true),
-        ("rtsp://h/a", true),
-        ("a b", false),
-        ("a\t", false),
-        ("\u{7f}", false),
-        ("\u{e4}", false),
-    ] {
-        assert_eq!(rt; has_url_bytes(text.as_bytes()), want, "at {text:?}");
-    }
+fn refuses_request_lines(rt: HostRuntime) -> Result<(), Fail> {
+    check(&rt, rt.alloc(), Kind::Fault, BAD_LINES)
+}
+
+const BAD_HEADS: &str = "\
+    OPTIONS * RTSP/1.0\r\n CSeq: 1\r\n\r\n@BadHeader(1) None|\
+    OPTIONS * RTSP/1.0\r\nCSeq : 1\r\n\r\n@BadHeader(1) None|\
+    OPTIONS * RTSP/1.0\r\nCSeq: 1\r\nUser Agent: x\r\n\r\n@BadHeader(2) Some(1)|\
+    OPTIONS * RTSP/1.0\r\nCSeq: 1\r\nX: a\rb\r\n\r\n@BadHeader(2) Some(1)|\
+    OPTIONS * RTSP/1.0\r\nCSeq: 1\r\nX: a\u{1}\r\nY\r\n\r\n@BadHeader(2) Some(1)|\
+    OPTIONS * RTSP/1.0\r\nCSeq: 1\r\nX: a\u{7f}\r\n\r\n@BadHeader(2) Some(1)|\
+    OPTIONS * RTSP/1.0\r\nX: 1\nX\nX:\nCSeq: 4\n\r\n@BadHeader(2) Some(4)|\
+    OPTIONS * RTSP/1.0\r\nX: 1\nY: 2\n: 3\n\r\n@BadHeader(3) None|\
+    OPTIONS * RTSP/1.0\r\nCSeq: 1a\n\r\n@NoSequenceNumber None|\
+    OPTIONS * RTSP/1.0\r\nCSeq:\n\r\n@NoSequenceNumber None|\
+    OPTIONS * RTSP/1.0\r\nCSeq: -1\n\r\n@NoSequenceNumber None|\
+    OPTIONS * RTSP/1.0\r\nX: 1\n\r\n@NoSequenceNumber None|\
+    OPTIONS * RTSP/1.0\r\n\r\n@NoSequenceNumber None|\
+    OPTIONS * RTSP/1.0\r\nCSeq: 18446744073709551616\n\r\n@NoSequenceNumber None|\
+    OPTIONS * RTSP/1.0\r\nCSeq: 1a\r\ncseq:\t 12 \t\r\n\r\n@NoSequenceNumber Some(12)|\
+    OPTIONS * RTSP/1.0\r\nCSeq: x\r\nContent-Length: x\r\n\r\n@NoSequenceNumber None|\
+    OPTIONS * RTSP/1.0\r\nCSeq: 3\r\nContent-Length: x\r\n\r\n@BadLength Some(3)|\
+    OPTIONS * RTSP/1.0\r\nCSeq: 3\r\ncontent-length:\r\n\r\n@BadLength Some(3)|\
+    OPTIONS * RTSP/1.0\r\n\
+    Content-Length: 1 2\r\nContent-Length: 0\r\nCSeq: 3\r\n\r\n@BadLength Some(3)";
+
+#[test]
+fn refuses_heads(rt: HostRuntime) -> Result<(), Fail> {
+    check(&rt, rt.alloc(), Kind::Fault, BAD_HEADS)
+}
+
+/// Messages with several faults, and the one that is answered.
+const MANY_FAULTS: &str = "\
+    OPTIONS * RTSP\n x\n\n@BadLine None|\
+    OPTIONS * RTSP/2.0\n x\n\n@BadVersion None|\
+    OPTIONS * RTSP/1.0\n x\n\n@BadHeader(1) None|\
+    OPTIONS * RTSP/1.0\nContent-Length: x\n\n@NoSequenceNumber None";
+
+#[test]
+fn refuses_in_order(rt: HostRuntime) -> Result<(), Fail> {
+    check(&rt, rt.alloc(), Kind::Fault, MANY_FAULTS)
+}
+
+/// Texts, and what is read of the request at their start. The parts of a row: the text, the body,
+/// what comes after the request, the method, the URL, the number in the CSeq, the name of a field,
+/// and its value, or `none`.
+const REQUESTS: &str = "\
+    OPTIONS * RTSP/1.0\ncseq: 7\n\n@@@OPTIONS@*@7@CSeq@7|\
+    OPTIONS rtsp://127.0.0.1:8554/news.mpg RTSP/1.0\r\nCSeq: 1\r\n\
+    User-Agent: Lavf60.16.100\r\n\r\n@@@\
+    OPTIONS@rtsp://127.0.0.1:8554/news.mpg@1@user-agent@Lavf60.16.100|\
+    OPTIONS RTSP://h RTSP/1.0\r\nCSeq: 1\r\nUser-Agent: GStreamer/1.22.0\r\n\
+    User-Agent: x\r\n\r\n@@@\
+    OPTIONS@RTSP://h@1@User-Agent@GStreamer/1.22.0|\
+    DESCRIBE rtsp://127.0.0.1:8554/news.mpg RTSP/1.0\r\nAccept: application/sdp\r\n\
+    CSeq: 2\r\n\r\nPLAY@@PLAY@\
+    DESCRIBE@rtsp://127.0.0.1:8554/news.mpg@2@Accept@application/sdp|\
+    SETUP rtsp://h/news.mpg/video RTSP/1.0\r\n\
+    Transport: RTP/AVP/UDP;unicast;client_port=5000-5001, \
+    RTP/AVP/TCP;unicast;interleaved=0-1\r\n\
+    CSeq: 3\r\n\r\n@@@\
+    SETUP@rtsp://h/news.mpg/video@3@transport@\
+    RTP/AVP/UDP;unicast;client_port=5000-5001, RTP/AVP/TCP;unicast;interleaved=0-1|\
+    PLAY rtsp://h/news.mpg/ RTSP/1.0\r\nRange: npt=0.000-\r\nCSeq: 4\r\n\
+    Session: 0123456789abcdef\r\n\r\n@@@\
+    PLAY@rtsp://h/news.mpg/@4@RANGE@npt=0.000-|\
+    GET_PARAMETER rtsp://h/news.mpg RTSP/1.0\r\nCSeq: 5\r\n\
+    Session:\t0123456789abcdef \t\r\n\r\n@@@\
+    GET_PARAMETER@rtsp://h/news.mpg@5@Session@0123456789abcdef|\
+    GET_PARAMETER rtsp://h/n RTSP/1.0\r\nCSeq: 0006\r\nContent-Length: 8\r\n\r\n\
+    x-Bookedrest@x-Booked@rest@\
+    GET_PARAMETER@rtsp://h/n@6@Scale@none|\
+    x-1 * RTSP/1.0\nX: a:b\nCSeq:7\nCSeq: 8\ncontent-length:02\n\nab@ab@@\
+    x-1@*@7@x@a:b";
+
+#[test]
+fn reads_requests(rt: HostRuntime) -> Result<(), Fail> {
+    check(&rt, rt.alloc(), Kind::Request, REQUESTS)
+}
+
+/// Texts, and the number that is found in each, if one is.
+const SEQUENCES: &str = "\
+    |\
+    CSeq: 3\r\n\r\n|\
+    a\r\n\r\nCSeq: 3\r\n\r\n|\
+    a\r\nCSeq: 3@3|\
+    a\nX\nCSeq=1\ncSEQ:18446744073709551615\n@18446744073709551615";
+
+#[test]
+fn finds_sequences_in_heads(rt: HostRuntime) -> Result<(), Fail> {
+    check(&rt, rt.alloc(), Kind::Sequence, SEQUENCES)
+}
+
+/// Texts, and whether a URL may have their bytes.
+const URL_BYTES: &str = "@true|!~@true|rtsp://h/a@true|a b@false|a\t@false|\u{7f}@false|\
+    \u{e4}@false";
+
+#[test]
+fn judges_the_bytes_of_urls(rt: HostRuntime) -> Result<(), Fail> {
+    check(&rt, rt.alloc(), Kind::UrlBytes, URL_BYTES)
 }
