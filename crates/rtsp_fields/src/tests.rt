@@ -4,211 +4,233 @@ ghost use Rattle.std.specs.Prelude.{◌≤◌, length};
 
 use super::*;
 use rtsp_text::Reply;
+use std::process::Abort;
 use std::test::Fail;
 
-/// A range that is read, from where and how far.
-fn span(from: Origin, to: Option<u128>) -> Option<Span> {
-    Some(Span { from, to })
+/// The part of a row at this place. The parts have `@` between them.
+fn part(row: &str, place: usize) -> &str {
+    row.split('@').nth(place).unwrap_or("")
 }
+
+/// The number that a text writes, if it does.
+fn number(text: &str) -> Option<u64> {
+    text.parse().ok()
+}
+
+/// What the rows of a table are about.
+#[derive(Clone, Copy)]
+enum Kind {
+    Range,
+    Transport,
+    Url,
+    Numbers,
+    Session,
+}
+
+/// Whether a range is read as its row says: the value, from where and how far, in nanoseconds.
+fn is_range(row: &str) -> bool {
+    let from = part(row, 1);
+    match read_range(part(row, 0).as_bytes()) {
+        None => !row.contains('@'),
+        Some(span) => {
+            let begins = match span.from {
+                Origin::Now => from == "now",
+                Origin::At(time) => Some(time) == number(from).map(u128::from),
+            };
+            begins && span.to == number(part(row, 2)).map(u128::from)
+        }
+    }
+}
+
+/// Whether the channels of a row are read of the value before them.
+fn is_transport(row: &str) -> bool {
+    match read_transport(part(row, 0).as_bytes()) {
+        None => !row.contains('@'),
+        Some(channels) => {
+            Some(u64::from(channels.media)) == number(part(row, 1))
+                && Some(u64::from(channels.control)) == number(part(row, 2))
+        }
+    }
+}
+
+/// Whether the authority and the film's name of a row are read of the URL before them.
+fn is_url(row: &str) -> bool {
+    match read_url(part(row, 0).as_bytes()) {
+        None => !row.contains('@'),
+        Some(url) => {
+            row.contains('@')
+                && url.authority == part(row, 1).as_bytes()
+                && url.name.unwrap_or(b"") == part(row, 2).as_bytes()
+        }
+    }
+}
+
+/// Whether a text is read as its row says: as a buffer, a delay and a wait.
+fn is_number(row: &str) -> bool {
+    let text = part(row, 0).as_bytes();
+    read_buffer(text) == number(part(row, 1))
+        && read_delay(text) == number(part(row, 2))
+        && read_wait(text) == number(part(row, 3))
+}
+
+/// Whether what a row says of its text holds.
+fn is_right(kind: Kind, row: &str) -> bool {
+    match kind {
+        Kind::Range => is_range(row),
+        Kind::Transport => is_transport(row),
+        Kind::Url => is_url(row),
+        Kind::Numbers => is_number(row),
+        Kind::Session => {
+            session_matches(part(row, 0).as_bytes(), b"0123456789abcdef") == (part(row, 1) == "true")
+        }
+    }
+}
+
+/// Compares each row of a table.
+fn check(rt: &impl Abort, kind: Kind, rows: &str) {
+    for row in rows.split('|') {
+        assert!(rt; is_right(kind, row), "at {row:?}");
+    }
+}
+
+/// Ranges, from where and how far; the values alone are no ranges.
+const RANGES: &str = "\
+    npt=1:02:03.5-@3723500000000@|\
+    npt=now-7@now@7000000000|\
+    npt=now-@now@|\
+    npt=0.000-@0@|\
+    NPT=0-10.000@0@10000000000|\
+    npt=5-5@5000000000@5000000000|\
+    npt=5-6@5000000000@6000000000|\
+    npt=5.-@5000000000@|\
+    npt=0.1234567891-@123456789@|\
+    npt=0.5-@500000000@|\
+    npt=999999999-@999999999000000000@|\
+    npt=99999:59:59-@359999999000000000@|\
+    npt=0:1:2-@62000000000@";
 
 #[test]
 fn reads_ranges(rt: HostRuntime) {
-    let second = 1_000_000_000u128;
-    for (value, want) in [
-        ("npt=1:02:03.5-", span(Origin::At(3_723_500_000_000), None)),
-        ("npt=now-7", span(Origin::Now, Some(7 * second))),
-        ("npt=now-", span(Origin::Now, None)),
-        ("npt=0.000-", span(Origin::At(0), None)),
-        ("NPT=0-10.000", span(Origin::At(0), Some(10 * second))),
-        ("npt=5-5", span(Origin::At(5 * second), Some(5 * second))),
-        ("npt=5-6", span(Origin::At(5 * second), Some(6 * second))),
-        ("npt=5.-", span(Origin::At(5 * second), None)),
-        ("npt=0.1234567891-", span(Origin::At(123_456_789), None)),
-        ("npt=0.5-", span(Origin::At(500_000_000), None)),
-        (
-            "npt=999999999-",
-            span(Origin::At(999_999_999 * second), None),
-        ),
-        (
-            "npt=99999:59:59-",
-            span(Origin::At(359_999_999 * second), None),
-        ),
-        ("npt=0:1:2-", span(Origin::At(62 * second), None)),
-    ] {
-        assert_eq!(rt; read_range(value.as_bytes()), want, "at {value}");
-    }
+    check(&rt, Kind::Range, RANGES);
 }
+
+const NO_RANGES: &str = "|npt=|npt=-|npt=-7|npt=-3|npt=7|npt=1e3-|npt=0:60:00-|npt=0:00:60-|\
+    npt=0:0:0:0-|npt=1:2-|npt=000000:0:0-|npt=0:000:0-|npt=1234567890-|npt=.5-|npt=1.2.3-|\
+    npt=NOW-|npt=now-now|npt=1-2-3|npt=1-2;time=3|npt= 1-|npt =1-|smpte=0:00:05-|\
+    clock=19961108T142300Z-";
 
 #[test]
 fn refuses_ranges(rt: HostRuntime) {
-    for value in [
-        "",
-        "npt=",
-        "npt=-",
-        "npt=-7",
-        "npt=-3",
-        "npt=7",
-        "npt=1e3-",
-        "npt=0:60:00-",
-        "npt=0:00:60-",
-        "npt=0:0:0:0-",
-        "npt=1:2-",
-        "npt=000000:0:0-",
-        "npt=0:000:0-",
-        "npt=1234567890-",
-        "npt=.5-",
-        "npt=1.2.3-",
-        "npt=NOW-",
-        "npt=now-now",
-        "npt=1-2-3",
-        "npt=1-2;time=3",
-        "npt= 1-",
-        "npt =1-",
-        "smpte=0:00:05-",
-        "clock=19961108T142300Z-",
-    ] {
-        assert_eq!(rt; read_range(value.as_bytes()), None, "at {value}");
-    }
+    check(&rt, Kind::Range, NO_RANGES);
 }
 
 /// Values of Transport, and the channels that are read of them.
-const TRANSPORTS: [(&str, Option<(u8, u8)>); 27] = [
-    (
-        "RTP/AVP;unicast;client_port=5000-5001, RTP/AVP/TCP;interleaved=2",
-        Some((2, 3)),
-    ),
-    ("RTP/AVP/TCP;unicast", Some((0, 1))),
-    ("RTP/AVP/TCP", Some((0, 1))),
-    ("RTP/AVP/TCP;unicast;interleaved=0-1", Some((0, 1))),
-    ("rtp/avp/tcp ; Unicast ;\tINTERLEAVED=6-255", Some((6, 255))),
-    ("RTP/AVP/TCP;interleaved=254", Some((254, 255))),
-    ("RTP/AVP/TCP;interleaved=007-0006", Some((7, 6))),
-    ("RTP/AVP/TCP;interleaved=4-5;interleaved=8-9", Some((4, 5))),
-    ("RTP/AVP/TCP;mode=play", Some((0, 1))),
-    ("RTP/AVP/TCP;mode=\"PLAY\";ssrc=0", Some((0, 1))),
-    (
-        "RTP/AVP/TCP;mode=record,RTP/AVP/TCP;interleaved=8",
-        Some((8, 9)),
-    ),
-    (",,RTP/AVP/TCP;;", Some((0, 1))),
-    ("RTP/AVP/TCP;interleaved=255, RTP/AVP/TCP", Some((0, 1))),
-    ("RTP/AVP/TCP;interleaved=255", None),
-    ("RTP/AVP/TCP;interleaved=7-7", None),
-    ("RTP/AVP/TCP;interleaved=0-256", None),
-    ("RTP/AVP/TCP;interleaved=0-", None),
-    ("RTP/AVP/TCP;interleaved=", None),
-    ("RTP/AVP/TCP;interleaved=0-1-2", None),
-    ("RTP/AVP/TCP;interleaved=a-b", None),
-    ("RTP/AVP/TCP;multicast", None),
-    ("RTP/AVP/TCP;mode=record", None),
-    ("RTP/AVP/TCP;mode=", None),
-    ("RTP/AVP;unicast;client_port=5000-5001", None),
-    ("unicast;RTP/AVP/TCP", None),
-    ("RTP/AVP/TCPX", None),
-    ("", None),
-];
+const TRANSPORTS: &str = "\
+    RTP/AVP;unicast;client_port=5000-5001, RTP/AVP/TCP;interleaved=2@2@3|\
+    RTP/AVP/TCP;unicast@0@1|\
+    RTP/AVP/TCP@0@1|\
+    RTP/AVP/TCP;unicast;interleaved=0-1@0@1|\
+    rtp/avp/tcp ; Unicast ;\tINTERLEAVED=6-255@6@255|\
+    RTP/AVP/TCP;interleaved=254@254@255|\
+    RTP/AVP/TCP;interleaved=007-0006@7@6|\
+    RTP/AVP/TCP;interleaved=4-5;interleaved=8-9@4@5|\
+    RTP/AVP/TCP;mode=play@0@1|\
+    RTP/AVP/TCP;mode=\"PLAY\";ssrc=0@0@1|\
+    RTP/AVP/TCP;mode=record,RTP/AVP/TCP;interleaved=8@8@9|\
+    ,,RTP/AVP/TCP;;@0@1|\
+    RTP/AVP/TCP;interleaved=255, RTP/AVP/TCP@0@1|\
+    RTP/AVP/TCP;interleaved=255|\
+    RTP/AVP/TCP;interleaved=7-7|\
+    RTP/AVP/TCP;interleaved=0-256|\
+    RTP/AVP/TCP;interleaved=0-|\
+    RTP/AVP/TCP;interleaved=|\
+    RTP/AVP/TCP;interleaved=0-1-2|\
+    RTP/AVP/TCP;interleaved=a-b|\
+    RTP/AVP/TCP;multicast|\
+    RTP/AVP/TCP;mode=record|\
+    RTP/AVP/TCP;mode=|\
+    RTP/AVP;unicast;client_port=5000-5001|\
+    unicast;RTP/AVP/TCP|\
+    RTP/AVP/TCPX|\
+    ";
 
 #[test]
 fn reads_transports(rt: HostRuntime) {
-    for (value, want) in TRANSPORTS {
-        let read = read_transport(value.as_bytes()).map(|channels| (
-            channels.media,
-            channels.control,
-        ));
-        assert_eq!(rt; read, want, "at {value}");
-    }
+    check(&rt, Kind::Transport, TRANSPORTS);
 }
 
-/// URLs, their authorities, and the films that they name; the empty text where they name none.
-const URLS: [(&str, &str, &str); 16] = [
-    ("RTSP://h:8554/news.mpg/video/", "h:8554", "news.mpg"),
-    (
-        "rtsp://127.0.0.1:8554/news.mpg",
-        "127.0.0.1:8554",
-        "news.mpg",
-    ),
-    ("rtsp://h/news.mpg/", "h", "news.mpg"),
-    ("rtsp://h/news.mpg/video", "h", "news.mpg"),
-    ("rtsp://h/video", "h", "video"),
-    ("rtsp://h/video/video", "h", "video"),
-    ("rtsp://h", "h", ""),
-    ("rtsp://h/", "h", ""),
-    ("rtsp://h//", "h", ""),
-    ("rtsp://h/.mpg", "h", ""),
-    ("rtsp://h/a/../b", "h", ""),
-    ("rtsp://h/a//video", "h", ""),
-    ("rtsp://h/a/audio", "h", ""),
-    ("rtsp://h/a/video//", "h", ""),
-    ("rtsp://h/a/VIDEO", "h", ""),
-    ("rtsp://h/a%20b", "h", ""),
-];
+/// URLs, their authorities, and the films that they name, if they name one. The texts that stand
+/// alone are no URLs.
+const URLS: &str = "\
+    RTSP://h:8554/news.mpg/video/@h:8554@news.mpg|\
+    rtsp://127.0.0.1:8554/news.mpg@127.0.0.1:8554@news.mpg|\
+    rtsp://h/news.mpg/@h@news.mpg|\
+    rtsp://h/news.mpg/video@h@news.mpg|\
+    rtsp://h/video@h@video|\
+    rtsp://h/video/video@h@video|\
+    rtsp://h@h@|\
+    rtsp://h/@h@|\
+    rtsp://h//@h@|\
+    rtsp://h/.mpg@h@|\
+    rtsp://h/a/../b@h@|\
+    rtsp://h/a//video@h@|\
+    rtsp://h/a/audio@h@|\
+    rtsp://h/a/video//@h@|\
+    rtsp://h/a/VIDEO@h@|\
+    rtsp://h/a%20b@h@|\
+    |\
+    *|\
+    rtsp://|\
+    rtsp:///a|\
+    rtsp:/h/a|\
+    http://h/a|\
+    rtspu://h/a|\
+    rtsp://h o/a|\
+    rtsp://h/a\u{7f}";
 
 #[test]
 fn reads_urls(rt: HostRuntime) {
-    for (text, authority, name) in URLS {
-        let read = read_url(text.as_bytes()).map(|url| (url.authority, url.name.unwrap_or(b"")));
-        assert_eq!(rt;
-            read,
-            Some((authority.as_bytes(), name.as_bytes())),
-            "at {text}"
-        );
-    }
-    for text in [
-        "",
-        "*",
-        "rtsp://",
-        "rtsp:///a",
-        "rtsp:/h/a",
-        "http://h/a",
-        "rtspu://h/a",
-        "rtsp://h o/a",
-        "rtsp://h/a\u{7f}",
-    ] {
-        assert!(rt; read_url(text.as_bytes()).is_none(), "at {text}");
-    }
+    check(&rt, Kind::Url, URLS);
 }
+
+/// Texts, and what is read of each as a buffer, a delay and a wait.
+const NUMBERS: &str = "\
+    0@@0@0|\
+    1@1@1@1|\
+    007@7@7@7|\
+    255@255@255@255|\
+    256@256@256@|\
+    10000@10000@10000@|\
+    10001@10001@@|\
+    4398046511104@4398046511104@@|\
+    4398046511105@@@|\
+    99999999999999999999@@@|\
+    @@@|\
+    -1@@@|\
+    1 @@@";
 
 #[test]
 fn reads_numbers(rt: HostRuntime) {
-    for (text, buffer, delay, wait) in [
-        ("0", None, Some(0), Some(0)),
-        ("1", Some(1), Some(1), Some(1)),
-        ("007", Some(7), Some(7), Some(7)),
-        ("255", Some(255), Some(255), Some(255)),
-        ("256", Some(256), Some(256), None),
-        ("10000", Some(10_000), Some(10_000), None),
-        ("10001", Some(10_001), None, None),
-        ("4398046511104", Some(4_398_046_511_104), None, None),
-        ("4398046511105", None, None, None),
-        ("99999999999999999999", None, None, None),
-        ("", None, None, None),
-        ("-1", None, None, None),
-        ("1 ", None, None, None),
-    ] {
-        assert_eq!(rt; read_buffer(text.as_bytes()), buffer, "at {text}");
-        assert_eq!(rt; read_delay(text.as_bytes()), delay, "at {text}");
-        assert_eq!(rt; read_wait(text.as_bytes()), wait, "at {text}");
-    }
+    check(&rt, Kind::Numbers, NUMBERS);
 }
+
+/// Values of Session, and whether each names the session.
+const SESSIONS: &str = "\
+    0123456789abcdef@true|\
+    0123456789ABCDEF@true|\
+    0123456789abcdef;timeout=60@true|\
+    \x200123456789abcdef\t;timeout=60@true|\
+    0123456789abcde@false|\
+    0123456789abcdef0@false|\
+    0123456789abcdee@false|\
+    ;0123456789abcdef@false|\
+    @false";
 
 #[test]
 fn matches_sessions(rt: HostRuntime) {
-    let id = session_id(0x0123_4567_89ab_cdef);
-    assert_eq!(rt; &id, b"0123456789abcdef");
-    assert_eq!(rt; &session_id(0), b"0000000000000000");
-    for (value, want) in [
-        ("0123456789abcdef", true),
-        ("0123456789ABCDEF", true),
-        ("0123456789abcdef;timeout=60", true),
-        (" 0123456789abcdef\t;timeout=60", true),
-        ("0123456789abcde", false),
-        ("0123456789abcdef0", false),
-        ("0123456789abcdee", false),
-        (";0123456789abcdef", false),
-        ("", false),
-    ] {
-        assert_eq!(rt; session_matches(value.as_bytes(), &id), want, "at {value}");
-    }
+    assert!(rt; session_id(0x0123_4567_89ab_cdef) == *b"0123456789abcdef");
+    assert!(rt; session_id(0) == *b"0000000000000000");
+    check(&rt, Kind::Session, SESSIONS);
 }
 
 #[test]
