@@ -36,6 +36,10 @@ const SENT: [u8; 141] = [
 const SETUP: &str = "SETUP rtsp://127.0.0.1:8554/b.mpg/video RTSP/1.0\r\nCSeq: 1\r\n\
     Transport: RTP/AVP/TCP;unicast;interleaved=0-1\r\nx-Buffer: 1048576\r\nx-Startup: 2\r\n\r\n";
 
+/// The same with a buffer of 105 bytes.
+const SMALL_SETUP: &str = "SETUP rtsp://127.0.0.1:8554/b.mpg/video RTSP/1.0\r\nCSeq: 1\r\n\
+    Transport: RTP/AVP/TCP;unicast;interleaved=0-1\r\nx-Buffer: 105\r\nx-Startup: 2\r\n\r\n";
+
 /// Its second request.
 const PLAY: &str =
     "PLAY rtsp://127.0.0.1:8554/b.mpg RTSP/1.0\r\nCSeq: 2\r\nSession: 0123456789abcdef\r\n\
@@ -282,76 +286,105 @@ const FAULTS: &[(&[&[Tell]], WatchFault, usize, usize)] = &[
     ),
 ];
 
-/// The event that a link delivers. Where it brings bytes and `cut` is true, one event for each
-/// byte.
-fn add_events(alloc: Global, events: &mut Vec<Event>, tell: Tell, cut: bool) -> Result<(), Fail> {
-    let bytes: &[u8] = match tell {
+/// Appends an event with these bytes.
+fn add_bytes(alloc: Global, events: &mut Vec<Event>, bytes: &[u8]) -> Option<()> {
+    let bytes = Vec::from_slice(alloc, bytes).ok()?;
+    events.push(Event::Bytes(bytes)).ok()
+}
+
+/// Appends the event that a link delivers. Where it brings bytes and `cut` is true, one event for
+/// each byte.
+fn add_events(alloc: Global, events: &mut Vec<Event>, tell: Tell, cut: bool) -> Option<()> {
+    let bytes = match tell {
         Text(text) => text.as_bytes(),
-        Film(from, to) => SENT.get(from..to).unwrap_or(&[]),
+        Film(from, to) => SENT.get(from..to)?,
         Raw(bytes) => bytes,
-        Slot(slot) => {
-            events.push(Event::Slot(slot))?;
-            return Ok(());
-        }
-        Tell::End => {
-            events.push(Event::End)?;
-            return Ok(());
-        }
+        Slot(slot) => return events.push(Event::Slot(slot)).ok(),
+        Tell::End => return events.push(Event::End).ok(),
     };
-    if cut {
-        for byte in bytes {
-            events.push(Event::Bytes(Vec::from_slice(alloc, &[*byte])?))?;
-        }
-    } else {
-        events.push(Event::Bytes(Vec::from_slice(alloc, bytes)?))?;
+    let most = if cut { 1 } else { 1_000 };
+    for part in bytes.chunks(most) {
+        add_bytes(alloc, events, part)?;
     }
-    Ok(())
+    Some(())
 }
 
 /// The events of all that a link delivers.
-fn events_of(alloc: Global, tells: &[Tell], cut: bool) -> Result<Vec<Event>, Fail> {
+fn events_of(alloc: Global, tells: &[Tell], cut: bool) -> Option<Vec<Event>> {
     let mut events = Vec::new(alloc);
     for tell in tells {
         add_events(alloc, &mut events, *tell, cut)?;
     }
-    Ok(events)
+    Some(events)
 }
 
-/// What comes of watching, what was sent and what was handed on.
-#[derive(Drop)]
-struct WatchOutcome {
-    end: WatchEnd,
-    sent: Vec<u8>,
-    out: Vec<u8>,
-}
-
-/// The numbers of the calls that fail: sends, calls of `next`, and writes.
-type Failing = (&'static [u64], &'static [u64], &'static [u64]);
+/// The numbers of the calls that fail: a send, a call of `next`, and a write; 0 for none.
+type Failing = [u64; 3];
 
 /// No call fails.
-const NO_FAILING: Failing = (&[], &[], &[]);
+const NO_FAILING: Failing = [0, 0, 0];
 
 /// Calls that fail during the complete film, with what comes of it, how many requests are sent, and
 /// how many of the film's bytes are handed on.
 const FAILING_CALLS: &[(Failing, WatchEnd, usize, usize)] = &[
-    ((&[1], &[], &[]), WatchEnd::LinkFault, 0, 0),
-    ((&[2], &[], &[]), WatchEnd::LinkFault, 1, 0),
-    ((&[3], &[], &[]), WatchEnd::LinkFault, 2, 49),
-    ((&[], &[1], &[]), WatchEnd::LinkFault, 1, 0),
-    ((&[], &[11], &[]), WatchEnd::LinkFault, 3, 49),
-    ((&[], &[], &[2]), WatchEnd::SinkFault, 2, 34),
+    ([1, 0, 0], WatchEnd::LinkFault, 0, 0),
+    ([2, 0, 0], WatchEnd::LinkFault, 1, 0),
+    ([3, 0, 0], WatchEnd::LinkFault, 2, 49),
+    ([0, 1, 0], WatchEnd::LinkFault, 1, 0),
+    ([0, 11, 0], WatchEnd::LinkFault, 3, 49),
+    ([0, 0, 2], WatchEnd::SinkFault, 2, 34),
 ];
 
-/// Watches the film over a link that gives these events, where these calls of the environment fail.
-fn watch_events(
+/// A link that gives these events, where these calls fail.
+fn link_of(alloc: Global, events: Vec<Event>, failing: &Failing) -> Option<MemoryLink> {
+    let sends = Vec::from_slice(alloc, &failing[..1]).ok()?;
+    let nexts = Vec::from_slice(alloc, &failing[1..2]).ok()?;
+    MemoryLink::new(alloc, events, 40_000, sends, nexts).ok()
+}
+
+/// An output where these calls fail.
+fn sink_of(alloc: Global, failing: &Failing) -> Option<MemorySink> {
+    let writes = Vec::from_slice(alloc, &failing[2..]).ok()?;
+    MemorySink::new(alloc, 10_000, writes).ok()
+}
+
+/// What follows a request if it is sent, or `?` where other bytes stand.
+fn after<'a>(bytes: &'a [u8], request: &str, is_sent: bool) -> &'a [u8] {
+    if is_sent {
+        bytes.strip_prefix(request.as_bytes()).unwrap_or(b"?")
+    } else {
+        bytes
+    }
+}
+
+/// Whether these bytes are the case's requests.
+fn is_sent(bytes: &[u8], case: &Case) -> bool {
+    let setup = if case.buffer == 105 {
+        SMALL_SETUP
+    } else {
+        SETUP
+    };
+    let later = after(bytes, setup, case.requests > 0);
+    let last = after(later, PLAY, case.requests > 1);
+    after(last, TEARDOWN, case.requests > 2).is_empty()
+}
+
+/// Whether these bytes are the film's first ones, so many of them.
+fn is_film(bytes: &[u8], count: usize) -> bool {
+    let (first, second) = bytes.split_at(bytes.len().min(34));
+    bytes.len() == count && SENT[72..106].starts_with(first) && SENT[126..].starts_with(second)
+}
+
+/// What comes of watching the film over this link.
+fn watched(
     alloc: Global,
     buffer: u64,
-    events: Vec<Event>,
-    failing: Failing,
-) -> Result<WatchOutcome, Fail> {
-    let name = String::from_str(alloc, "b.mpg")?;
+    link: &mut MemoryLink,
+    out: &mut MemorySink,
+) -> Option<WatchEnd> {
+    let name = String::from_str(alloc, "b.mpg").ok()?;
     if !good_name(name.as_bytes()) || buffer < 1 || buffer > MAX_BYTES {
-        return Err(Fail::from("no such wish"));
+        return None;
     }
     let wish = Wish {
         name,
@@ -360,83 +393,55 @@ fn watch_events(
         startup: 2,
         slot_units: 14_400,
     };
-    let (sends, nexts, writes) = failing;
-    let sends = Vec::from_slice(alloc, sends)?;
-    let nexts = Vec::from_slice(alloc, nexts)?;
-    let Ok(mut link) = MemoryLink::new(alloc, events, 40_000, sends, nexts) else {
-        return Err(Fail::from("no memory"));
+    Some(watch(alloc, &wish, link, out))
+}
+
+/// Whether what was sent and what was handed on are what the case says.
+fn is_told(case: &Case, link: &MemoryLink, out: &MemorySink) -> bool {
+    is_sent(link.sent(), case) && is_film(out.bytes(), case.handed_on)
+}
+
+/// Whether watching the film comes to what the case says, over a link that gives these events,
+/// where these calls of the environment fail.
+fn is_watched(alloc: Global, case: &Case, events: Vec<Event>, failing: &Failing) -> bool {
+    let Some(mut link) = link_of(alloc, events, failing) else {
+        return false;
     };
-    let Ok(mut out) = MemorySink::new(alloc, 10_000, Vec::from_slice(alloc, writes)?) else {
-        return Err(Fail::from("no memory"));
+    let Some(mut out) = sink_of(alloc, failing) else {
+        return false;
     };
-    let end = watch(alloc, &wish, &mut link, &mut out);
-    Ok(WatchOutcome {
-        end,
-        sent: Vec::from_slice(alloc, link.sent())?,
-        out: Vec::from_slice(alloc, out.bytes())?,
-    })
+    let end = watched(alloc, case.buffer, &mut link, &mut out);
+    end == Some(case.end) && is_told(case, &link, &out)
 }
 
-/// The first requests, so many of them.
-fn requests(alloc: Global, count: usize, buffer: u64) -> Result<String, Fail> {
-    let mut text = String::new(alloc);
-    for request in [SETUP, PLAY, TEARDOWN].iter().take(count) {
-        text.push_str(request)?;
-    }
-    if buffer == 105 {
-        text = text.replace(alloc, "1048576", "105")?;
-    }
-    Ok(text)
-}
-
-/// The film's first bytes, so many of them.
-fn film(alloc: Global, count: usize) -> Result<Vec<u8>, Fail> {
-    let mut bytes = Vec::new(alloc);
-    for part in [SENT.get(72..106), SENT.get(126..)] {
-        bytes.extend_from_slice(part.unwrap_or(&[]))?;
-    }
-    bytes.truncate(count);
-    Ok(bytes)
-}
-
-/// Compares what comes of a case where these calls fail, and each byte is an event of its own or
+/// Whether the case comes about where these calls fail, and each byte is an event of its own or
 /// not.
-fn check_run(
-    rt: &impl Abort,
-    alloc: Global,
-    number: usize,
-    case: &Case,
-    cut: bool,
-    failing: Failing,
-) -> Result<(), Fail> {
-    let events = events_of(alloc, case.tells, cut)?;
-    let got = watch_events(alloc, case.buffer, events, failing)?;
-    let sent = requests(alloc, case.requests, case.buffer)?;
-    let out = film(alloc, case.handed_on)?;
-    assert_eq!(rt;
-        (got.end, got.sent.as_slice(), got.out.as_slice()),
-        (case.end, sent.as_bytes(), out.as_slice()),
-        "case {number} {cut} {failing:?}"
-    );
-    Ok(())
+fn is_run(alloc: Global, case: &Case, cut: bool, failing: &Failing) -> bool {
+    match events_of(alloc, case.tells, cut) {
+        Some(events) => is_watched(alloc, case, events, failing),
+        None => false,
+    }
 }
 
 /// Compares what comes of a case where no call fails, in larger events and byte by byte.
-fn check_case(rt: &impl Abort, alloc: Global, number: usize, case: &Case) -> Result<(), Fail> {
-    check_run(rt, alloc, number, case, false, NO_FAILING)?;
-    check_run(rt, alloc, number, case, true, NO_FAILING)
-}
-
-#[test]
-fn watches_films(rt: HostRuntime) -> Result<(), Fail> {
-    for (number, case) in COMPLETE_CASES.iter().enumerate() {
-        check_case(&rt, rt.alloc(), number, case)?;
+fn check_case(rt: &impl Abort, alloc: Global, number: usize, case: &Case) {
+    for cut in [false, true] {
+        assert!(rt;
+            is_run(alloc, case, cut, &NO_FAILING),
+            "case {number} {cut}"
+        );
     }
-    Ok(())
 }
 
 #[test]
-fn faults_end_the_watching(rt: HostRuntime) -> Result<(), Fail> {
+fn watches_films(rt: HostRuntime) {
+    for (number, case) in COMPLETE_CASES.iter().enumerate() {
+        check_case(&rt, rt.alloc(), number, case);
+    }
+}
+
+#[test]
+fn faults_end_the_watching(rt: HostRuntime) {
     for (ways, fault, requests, handed_on) in FAULTS {
         for (number, tells) in ways.iter().enumerate() {
             let case = Case {
@@ -446,24 +451,25 @@ fn faults_end_the_watching(rt: HostRuntime) -> Result<(), Fail> {
                 requests: *requests,
                 handed_on: *handed_on,
             };
-            check_case(&rt, rt.alloc(), number, &case)?;
+            check_case(&rt, rt.alloc(), number, &case);
         }
     }
-    Ok(())
 }
 
 #[test]
-fn blames_the_outside(rt: HostRuntime) -> Result<(), Fail> {
-    for (number, (failing, end, requests, handed_on)) in FAILING_CALLS.iter().enumerate() {
+fn blames_the_outside(rt: HostRuntime) {
+    for (failing, end, requests, handed_on) in FAILING_CALLS {
         let case = Case {
             end: *end,
             requests: *requests,
             handed_on: *handed_on,
             ..COMPLETE
         };
-        check_run(&rt, rt.alloc(), number, &case, false, *failing)?;
+        assert!(rt;
+            is_run(rt.alloc(), &case, false, failing),
+            "where {failing:?} fail"
+        );
     }
-    Ok(())
 }
 
 #[test]
@@ -471,7 +477,12 @@ fn refuses_an_endless_head(rt: HostRuntime) -> Result<(), Fail> {
     let alloc = rt.alloc();
     let mut events = Vec::new(alloc);
     events.push(Event::Bytes(vec![in alloc; b'a'; 16_384]?))?;
-    let got = watch_events(alloc, BUFFER, events, NO_FAILING)?;
-    assert_eq!(rt; got.end, WatchEnd::Fault(WatchFault::Framing));
+    let case = Case {
+        end: WatchEnd::Fault(WatchFault::Framing),
+        requests: 1,
+        handed_on: 0,
+        ..COMPLETE
+    };
+    assert!(rt; is_watched(alloc, &case, events, &NO_FAILING));
     Ok(())
 }
