@@ -5,7 +5,6 @@ ghost use Rattle.rtp_pack.specs.Sizes.{bytes_of};
 
 use mpeg_scan::{Found, Scanner, Unit};
 use rtp_pack::UnitSize;
-use std::test::Fail;
 use vod_base::NoMemory;
 
 /// The bytes of a report before a group.
@@ -42,21 +41,17 @@ impl Found for Sizes {
 }
 
 #[test]
-fn collects_sizes_in_pieces(rt: HostRuntime) -> Result<(), Fail> {
-    let film = [
-        0, 0, 1, 0xb3, 0x16, 0x01, 0x20, 0x13, 0xff, 0xff, 0xe0, 0xa0, 0, 0, 1, 0xb8, 0x00, 0x08,
-        0x00, 0x40, 0, 0, 1, 0, 0x00, 0x0f, 0xff, 0xf8, 0, 0, 1, 1, 0x12, 0x34, 0, 0, 1, 0, 0x00,
-        0x57, 0xff, 0xf8, 0x80, 0, 0, 1, 1, 0x12, 0x34,
-    ];
+fn collects_sizes_in_pieces(rt: HostRuntime) {
+    let front = b"\0\0\x01\xb3\x16\x01\x20\x13\xff\xff\xe0\xa0\
+        \0\0\x01\xb8\0\x08\0\x40\0\0\x01\0\0\x0f\xff\xf8\0\0\x01";
+    let rest = b"\x01\x12\x34\0\0\x01\0\0\x57\xff\xf8\x80\0\0\x01\x01\x12\x34";
     let mut found = Sizes {
         unit: UnitSize::begin(1),
         all: Vec::new(rt.alloc()),
     };
     let mut scanner = Scanner::new();
-    let (front, rest) = film.split_at(31);
-    scanner.feed(front, &mut found)?;
-    scanner.feed(rest, &mut found)?;
-    scanner.finish(&mut found)?;
-    assert_eq!(rt; found.all.as_slice(), [106, 35].as_slice());
-    Ok(())
+    scanner.feed(front, &mut found).expect(&rt, "the front");
+    scanner.feed(rest, &mut found).expect(&rt, "the rest");
+    scanner.finish(&mut found).expect(&rt, "the end");
+    assert!(rt; found.all.as_slice() == [106, 35].as_slice());
 }
