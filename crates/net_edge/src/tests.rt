@@ -10,8 +10,8 @@ use crate::tests::sockets::{
 use crate::tests::test_gates::TestGate;
 use std::alloc::Global;
 use std::io::{Read, Write};
-use std::net::{Net, Shutdown, TcpStream};
-use std::test::Fail;
+use std::net::{Net, Shutdown, TcpListener, TcpStream};
+use std::rt::Files;
 use std::thread::Threads;
 use std::time::Clock;
 use std::{fmt, fs, io};
@@ -99,21 +99,30 @@ fn speak<K: Link, S: Read + Write>(link: &mut K, client: &mut S) -> bool {
         && link.send(b"last").is_ok()
 }
 
-/// The last text that a client receives of a part's connection, which speaks with it before.
-fn last_text<G: TestGate>(alloc: Global, part: &mut G, mut client: TcpStream) -> Option<String> {
-    let mut link = link_of(part)?;
+/// Whether a link of a part speaks with its client, and the client then receives `last` to the end.
+fn speaks_to_end<G: TestGate>(
+    alloc: Global,
+    part: &mut G,
+    mut link: G::Conn,
+    mut client: TcpStream,
+) -> bool {
     let printed = "SocketLink { socket: TcpSocket { .. }, .. }";
     let is_spoken = is_printed(alloc, &link, printed)
         && speak(&mut link, &mut client)
         && client.shutdown(Shutdown::Write).is_ok();
     part.end_conn(link);
-    if !is_spoken {
-        return None;
-    }
-    io::read_to_string(alloc, client).ok()
+    is_spoken && matches!(io::read_to_string(alloc, client), Ok(text) if text.as_str() == "last")
 }
 
 /// Whether a connection of a gate's part speaks with its client, and the part gives no other.
+fn speaks_by_part<G: TestGate>(alloc: Global, part: &mut G, client: TcpStream) -> bool {
+    let Some(link) = link_of(part) else {
+        return false;
+    };
+    speaks_to_end(alloc, part, link, client) && gives_none(part)
+}
+
+/// Whether a part of a gate serves one connection.
 fn speaks<R: Net<Stream = TcpStream>, G: TestGate + Drop>(
     rt: &R,
     alloc: Global,
@@ -122,11 +131,9 @@ fn speaks<R: Net<Stream = TcpStream>, G: TestGate + Drop>(
     let port = open_gate(gate, &HOW)?;
     let client = connect(rt, 1, port).ok()?;
     let mut part = gate.split_off().ok()?;
-    let is_last =
-        matches!(last_text(alloc, &mut part, client), Some(text) if text.as_str() == "last");
-    let is_only = gives_none(&mut part);
+    let is_spoken = speaks_by_part(alloc, &mut part, client);
     gate.join_part(part);
-    Some(is_last && is_only)
+    Some(is_spoken)
 }
 
 /// Whether a gate doesn't open at the port of another one, and then gives no part.
@@ -212,20 +219,32 @@ fn reads_digits<L: Library>(library: &mut L) -> bool {
     library.find("f.txt") == Ok(Some(10)) && library.find("g.txt") == Ok(None)
 }
 
-/// Files are read, and a text is written to one. On a device that is full each write fails.
-#[test]
-fn reads_and_writes_files(rt: HostRuntime) -> Result<(), Fail> {
-    fs::write(&rt, "f.txt", "0123456789")?;
-    let mut library = FileLibrary::new(&rt, rt.alloc());
-    assert!(rt; is_printed(rt.alloc(), &library, "FileLibrary { .. }"));
-    assert!(rt; reads_digits(&mut library));
-    for (name, want) in [("o.txt", Ok(())), ("/dev/full", Err(SinkFault))] {
-        let mut sink = OutSink::new(fs::create(&rt, name)?);
-        assert!(rt; is_printed(rt.alloc(), &sink, "OutSink { .. }"));
-        assert_eq!(rt; sink.write_all(b"out"), want, "{name}");
+/// Whether a text is written to a new file of that name.
+fn writes<R: Files>(rt: &R, alloc: Global, name: &str) -> Option<Result<(), SinkFault>> {
+    let mut sink = OutSink::new(fs::create(rt, name).ok()?);
+    if !is_printed(alloc, &sink, "OutSink { .. }") {
+        return None;
     }
-    assert_eq!(rt; library.find("o.txt"), Ok(Some(3)));
-    Ok(())
+    Some(sink.write_all(b"out"))
+}
+
+/// Whether files are read, and a text is written to one. On a device that is full each write fails.
+fn has_files<R: Files>(rt: &R, alloc: Global) -> [bool; 6] {
+    let is_ready = fs::write(rt, "f.txt", "0123456789").is_ok();
+    let mut library = FileLibrary::new(rt, alloc);
+    [
+        is_ready,
+        is_printed(alloc, &library, "FileLibrary { .. }"),
+        reads_digits(&mut library),
+        writes(rt, alloc, "o.txt") == Some(Ok(())),
+        writes(rt, alloc, "/dev/full") == Some(Err(SinkFault)),
+        library.find("o.txt") == Ok(Some(3)),
+    ]
+}
+
+#[test]
+fn reads_and_writes_files(rt: HostRuntime) {
+    assert_eq!(rt; has_files(&rt, rt.alloc()), [true; 6]);
 }
 
 /// What a gate that listens and one that dials do at ports of this machine.
@@ -254,16 +273,32 @@ where
     ]
 }
 
+/// The same of the gates of this machine, and whether they are printed as they should be.
+fn system_serves_and_dials<R>(rt: &R, alloc: Global) -> ([bool; 2], [Option<bool>; 8])
+where
+    R: Net<Listener = TcpListener, Stream = TcpStream> + Clock + Threads + Sync,
+{
+    let mut gate = TcpGate::new(TcpPort::new(rt, alloc));
+    let second = TcpGate::new(TcpPort::new(rt, alloc));
+    let mut dial = DialGate::new(rt, alloc);
+    let printed = [
+        is_printed(
+            alloc,
+            &gate,
+            "ListenerGate { listener: TcpPort { .. }, .. }",
+        ),
+        is_printed(alloc, &dial, "DialGate { .. }"),
+    ];
+    (
+        printed,
+        serves_and_dials(rt, alloc, &mut gate, second, &mut dial),
+    )
+}
+
 /// One test for all of it: the types of the real gates are long, and the proof of a test repeats
-/// them at each call.
+/// them at each call. For the same reason the test names no gate.
 #[test]
 fn gates_serve_and_dial(rt: HostRuntime) {
-    let mut gate = TcpGate::new(TcpPort::new(&rt, rt.alloc()));
-    let second = TcpGate::new(TcpPort::new(&rt, rt.alloc()));
-    let mut dial = DialGate::new(&rt, rt.alloc());
-    let printed = "ListenerGate { listener: TcpPort { .. }, .. }";
-    assert!(rt; is_printed(rt.alloc(), &gate, printed));
-    assert!(rt; is_printed(rt.alloc(), &dial, "DialGate { .. }"));
-    let done = serves_and_dials(&rt, rt.alloc(), &mut gate, second, &mut dial);
-    assert_eq!(rt; done, [Some(true); 8]);
+    let done = system_serves_and_dials(&rt, rt.alloc());
+    assert_eq!(rt; done, ([true; 2], [Some(true); 8]));
 }

@@ -3,8 +3,9 @@
 use super::{HOW, link_of, next_slot, open_gate};
 use crate::tests::test_gates::TestGate;
 use crate::{TcpGate, TcpPort};
+use std::alloc::Global;
 use std::io::{self, Read, Write};
-use std::net::{Ipv4Addr, Net, SocketAddr, TcpStream};
+use std::net::{Ipv4Addr, Net, SocketAddr, TcpListener, TcpStream};
 use std::thread::{self, Threads};
 use std::time::{Clock, Duration, Instant};
 use vod_base::{Link, Opening};
@@ -16,6 +17,21 @@ pub(crate) fn connect<R: Net<Stream = TcpStream>>(
     port: u16,
 ) -> io::Result<TcpStream> {
     TcpStream::connect(rt, SocketAddr::from((Ipv4Addr::new(127, 0, 0, last), port)))
+}
+
+/// A client's connection to the port of a gate, and the gate's end of it. The client sends these
+/// bytes before the gate gives its end.
+fn pair_of<R: Net<Stream = TcpStream>, G: TestGate>(
+    rt: &R,
+    gate: &mut G,
+    port: u16,
+    first: &[u8],
+) -> Option<(TcpStream, G::Conn)> {
+    let mut client = connect(rt, 1, port).ok()?;
+    if client.write_all(first).is_err() {
+        return None;
+    }
+    Some((client, link_of(gate)?))
 }
 
 /// Whether a gate listens at 127.0.0.1, and at 127.0.0.2 where it listens at all addresses.
@@ -80,8 +96,7 @@ where
     G::Conn: Send,
 {
     let port = open_gate(gate, &HOW)?;
-    let mut client = connect(rt, 1, port).ok()?;
-    let link = link_of(gate)?;
+    let (mut client, link) = pair_of(rt, gate, port, &[])?;
     let (sent, read) = thread::join(
         rt,
         || send_and_end(gate, link),
@@ -120,8 +135,7 @@ fn has_slots<R: Net<Stream = TcpStream> + Clock, G: TestGate>(
     let before = Instant::now(rt).ok()?;
     let port = open_gate(gate, &Opening { slot_units, ..HOW })?;
     let after = Instant::now(rt).ok()?;
-    let _client = connect(rt, 1, port).ok()?;
-    let mut link = link_of(gate)?;
+    let (_client, mut link) = pair_of(rt, gate, port, &[])?;
     counts_slots(rt, &mut link, slot_units, before, after)
 }
 
@@ -164,19 +178,30 @@ impl<R: Clock> Clock for Hurried<'_, R> {
 /// Whether a link gives its peer up 0.6 s after the peer stopped reading: 60 s by a hurried clock.
 fn gives_up<R: Net<Stream = TcpStream> + Clock, G: TestGate>(rt: &R, gate: &mut G) -> Option<bool> {
     let port = open_gate(gate, &HOW)?;
-    let _client = connect(rt, 1, port).ok()?;
-    let mut link = link_of(gate)?;
+    let (_client, mut link) = pair_of(rt, gate, port, &[])?;
+    waits_for_peer(rt, &mut link)
+}
+
+/// Whether a link's sends fail, but not before 0.6 s.
+fn waits_for_peer<R: Clock, K: Link>(rt: &R, link: &mut K) -> Option<bool> {
     let begun = Instant::now(rt).ok()?;
-    let is_sent = send_blocks(&mut link);
+    let is_sent = send_blocks(link);
     let waited = begun.elapsed(rt).ok()?;
     Some(!is_sent && waited >= Duration::from_millis(600))
 }
 
+/// The same, over a gate whose clock is hurried.
+fn gives_up_soon<R>(rt: &R, alloc: Global) -> Option<bool>
+where
+    R: Net<Listener = TcpListener, Stream = TcpStream> + Clock,
+{
+    let hurried = Hurried(rt);
+    gives_up(rt, &mut TcpGate::new(TcpPort::new(&hurried, alloc)))
+}
+
 #[test]
 fn gives_up_a_peer_that_takes_nothing(rt: HostRuntime) {
-    let hurried = Hurried(&rt);
-    let mut gate = TcpGate::new(TcpPort::new(&hurried, rt.alloc()));
-    assert_eq!(rt; gives_up(&rt, &mut gate), Some(true));
+    assert_eq!(rt; gives_up_soon(&rt, rt.alloc()), Some(true));
 }
 
 /// Sends for a while, and then reads to the end; returns whether these bytes came.
@@ -200,10 +225,10 @@ where
     G::Conn: Send,
 {
     let port = open_gate(gate, &HOW)?;
-    let mut client = connect(rt, 1, port).ok()?;
-    client.write_all(&[b' '; 1_000]).ok()?;
-    let mut link = link_of(gate)?;
-    link.send(b"last").ok()?;
+    let (mut client, mut link) = pair_of(rt, gate, port, &[b' '; 1_000])?;
+    if link.send(b"last").is_err() {
+        return None;
+    }
     let ((), came) = thread::join(
         rt,
         || gate.end_conn(link),
