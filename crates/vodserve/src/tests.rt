@@ -55,30 +55,29 @@ file endless smooth 1|slots 3|bytes 7|segment 3 7|
 3 vodserve: endless: BadCert 5|
 ";
 
-/// Command lines that mean nothing.
-const WITHOUT_MEANING: &[&str] = &[
-    "",
-    "plan buffer=10",
-    "plan trace=even trace=even",
-    "plan trace=even buffer=0",
-    "plan trace=even buffer=4398046511105",
-    "plan trace=even startup=10001",
-    "plan trace=even startup=+1",
-    "plan trace=even cert=cert",
-    "plan trace=.even",
-    "check trace=even cert=.cert",
-    "scan film=.film",
-    "day script=.script",
-    "plan trace",
-    "check trace=even",
-    "scan",
-    "scan film=a film=b",
-    "make kind=song seed=1 pictures=1",
-    "make kind=film seed=1 pictures=0",
-    "--help plan",
-    "serve",
-    "serve film=b.mpg film=b.mpg",
-];
+/// Command lines that mean nothing. The first is empty.
+const WITHOUT_MEANING: &str = "
+plan buffer=10
+plan trace=even trace=even
+plan trace=even buffer=0
+plan trace=even buffer=4398046511105
+plan trace=even startup=10001
+plan trace=even startup=+1
+plan trace=even cert=cert
+plan trace=.even
+check trace=even cert=.cert
+scan film=.film
+day script=.script
+plan trace
+check trace=even
+scan
+scan film=a film=b
+make kind=song seed=1 pictures=1
+make kind=film seed=1 pictures=0
+--help plan
+serve
+serve film=b.mpg film=b.mpg
+";
 
 /// Inputs that are refused.
 const REFUSALS: &str = "\
@@ -194,19 +193,31 @@ fn plans_checks_and_makes(rt: HostRuntime) -> Result<(), Fail> {
     pass_all(&rt, rt.alloc(), &[PLANS, REFUSALS, FAULTS, MADE, LONG])
 }
 
+/// The arguments of a server with one film too many.
+fn films_of_65(alloc: Global) -> Result<String, NoMemory> {
+    let mut words = String::new(alloc);
+    words.push_str("serve")?;
+    for number in 0..65 {
+        let film = format!(in alloc; " film={number}.mpg")?;
+        words.push_str(film.as_str())?;
+    }
+    Ok(words)
+}
+
+/// A script of one command line that means nothing.
+fn push_usage(script: &mut String, alloc: Global, words: &str) -> Result<(), NoMemory> {
+    let run = format!(in alloc; "> {words}\n2 vodserve: usage|\n")?;
+    script.push_str(run.as_str())?;
+    Ok(())
+}
+
 /// A script of command lines that mean nothing: those above, and one with too many films.
 fn without_meaning(alloc: Global) -> Result<String, NoMemory> {
     let mut script = String::new(alloc);
-    for words in WITHOUT_MEANING {
-        let run = format!(in alloc; "> {words}\n2 vodserve: usage|\n")?;
-        script.push_str(run.as_str())?;
+    for words in WITHOUT_MEANING.lines() {
+        push_usage(&mut script, alloc, words)?;
     }
-    script.push_str("> serve")?;
-    for number in 0..65 {
-        let film = format!(in alloc; " film={number}.mpg")?;
-        script.push_str(film.as_str())?;
-    }
-    script.push_str("\n2 vodserve: usage|\n")?;
+    push_usage(&mut script, alloc, films_of_65(alloc)?.as_str())?;
     Ok(script)
 }
 

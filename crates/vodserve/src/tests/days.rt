@@ -113,36 +113,36 @@ booked=137480547 peak=50000|
 0 fair turns=2000 admitted=0 overflow=2000 halted=0 full=0 last=2959 sent=0 booked=0 peak=0|
 ";
 
-/// Scripts with a line that means nothing, each with the first such line.
-const BAD_SCRIPTS: &[(&str, &str)] = &[
-    ("play 256 trace T 7 0|", "BadScript 1"),
-    ("play 0 trace T 0 0|", "BadScript 1"),
-    ("play 0 trace T 4398046511105 0|", "BadScript 1"),
-    ("play 0 trace T 7 10001|", "BadScript 1"),
-    ("play 0 movie T 7 0|", "BadScript 1"),
-    ("play 0 trace .T 7 0|", "BadScript 1"),
-    ("play 0 trace T 7|", "BadScript 1"),
-    ("play 0 trace T 7 0 0|", "BadScript 1"),
-    ("offer 0 trace T 7 0|", "BadScript 1"),
-    ("offer 0 trace T 7 0 256|", "BadScript 1"),
-    ("pause 256|", "BadScript 1"),
-    ("pause|", "BadScript 1"),
-    ("pause 0 |", "BadScript 1"),
-    ("resume x|", "BadScript 1"),
-    ("resume +1|", "BadScript 1"),
-    ("look 4611686018427387905|", "BadScript 1"),
-    ("slot 0|", "BadScript 1"),
-    ("slot 4611686018427387905|", "BadScript 1"),
-    ("slot 2|slot 2|", "BadScript 2"),
-    ("slot 5||look 1|slot 4|", "BadScript 4"),
-    ("stop 0|", "BadScript 1"),
-    ("pause 0|slot 0|", "BadScript 2"),
-    ("pause 0|stop 0|", "BadScript 2"),
-    ("||pause 256|", "BadScript 3"),
-    ("pause  0|", "BadScript 1"),
-    (" pause 0|", "BadScript 1"),
-    ("slot 5|look 1|slot 6|slot 5", "BadScript 4"),
-];
+/// Scripts with a line that means nothing, each after the fault that names the first such line.
+const BAD_SCRIPTS: &str = "\
+BadScript 1:play 256 trace T 7 0|
+BadScript 1:play 0 trace T 0 0|
+BadScript 1:play 0 trace T 4398046511105 0|
+BadScript 1:play 0 trace T 7 10001|
+BadScript 1:play 0 movie T 7 0|
+BadScript 1:play 0 trace .T 7 0|
+BadScript 1:play 0 trace T 7|
+BadScript 1:play 0 trace T 7 0 0|
+BadScript 1:offer 0 trace T 7 0|
+BadScript 1:offer 0 trace T 7 0 256|
+BadScript 1:pause 256|
+BadScript 1:pause|
+BadScript 1:pause 0 |
+BadScript 1:resume x|
+BadScript 1:resume +1|
+BadScript 1:look 4611686018427387905|
+BadScript 1:slot 0|
+BadScript 1:slot 4611686018427387905|
+BadScript 2:slot 2|slot 2|
+BadScript 4:slot 5||look 1|slot 4|
+BadScript 1:stop 0|
+BadScript 2:pause 0|slot 0|
+BadScript 2:pause 0|stop 0|
+BadScript 3:||pause 256|
+BadScript 1:pause  0|
+BadScript 1: pause 0|
+BadScript 4:slot 5|look 1|slot 6|slot 5
+";
 
 #[test]
 fn runs_scripts_and_drawn_plays(rt: HostRuntime) -> Result<(), Fail> {

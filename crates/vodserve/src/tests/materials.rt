@@ -5,7 +5,8 @@ use hex::FromHexError;
 use mpeg_scan::{ScanRefused, scan};
 use std::alloc::Global;
 use std::process::Abort;
-use vod_base::{MemoryLibrary, NoMemory, read_number};
+use std::slice;
+use vod_base::{MemoryLibrary, NoMemory, push, read_number};
 
 /// Two pictures: a sequence header, a group header, an I picture of one slice, and a P picture of
 /// one slice.
@@ -14,13 +15,22 @@ pub(crate) const FILM: &[u8] =
 \x00\x00\x01\x00\x00\x0f\xff\xf8\x00\x00\x01\x01\x12\x34\
 \x00\x00\x01\x00\x00\x57\xff\xf8\x80\x00\x00\x01\x01\x12\x34";
 
+/// Adds a file to those of a library.
+fn push_file(
+    held: &mut Vec<(String, Vec<u8>)>,
+    alloc: Global,
+    name: &str,
+    bytes: &[u8],
+) -> Result<(), NoMemory> {
+    let name = String::from_str(alloc, name)?;
+    held.push((name, Vec::from_slice(alloc, bytes)?))?;
+    Ok(())
+}
+
 /// A library that holds this film alone, as `b.mpg`.
 pub(crate) fn library_of_film(alloc: Global) -> Result<MemoryLibrary, NoMemory> {
     let mut held = Vec::new(alloc);
-    held.push((
-        String::from_str(alloc, "b.mpg")?,
-        Vec::from_slice(alloc, FILM)?,
-    ))?;
+    push_file(&mut held, alloc, "b.mpg", FILM)?;
     Ok(MemoryLibrary::new(held, Vec::new(alloc)))
 }
 
@@ -48,11 +58,62 @@ pub(crate) fn bytes_of(alloc: Global, text: &str, end: &[u8]) -> Result<Vec<u8>,
     let mut bytes = Vec::new(alloc);
     for byte in text.as_bytes() {
         match *byte {
-            b'|' => bytes.extend_from_slice(end)?,
-            other => bytes.push(other)?,
+            b'|' => push(&mut bytes, end)?,
+            _ => push(&mut bytes, slice::from_ref(byte))?,
         }
     }
     Ok(bytes)
+}
+
+/// What follows a text in bytes that begin with it. In the text `|` means a line's end.
+pub(crate) fn after_text<'a>(bytes: &'a [u8], text: &str, end: &[u8]) -> Option<&'a [u8]> {
+    let mut rest = bytes;
+    for byte in text.as_bytes() {
+        rest = match *byte {
+            b'|' => rest.strip_prefix(end)?,
+            _ => rest.strip_prefix(slice::from_ref(byte))?,
+        };
+    }
+    Some(rest)
+}
+
+/// Whether bytes are a text. In the text `|` means a line's end.
+pub(crate) fn is_text(bytes: &[u8], text: &str, end: &[u8]) -> bool {
+    matches!(after_text(bytes, text, end), Some([]))
+}
+
+/// The bytes of hexadecimal digits. At other text the test stops.
+fn bytes_of_digits<R: Abort>(rt: &R, alloc: Global, word: &str) -> Result<Vec<u8>, NoMemory> {
+    match hex::decode(alloc, word) {
+        Ok(bytes) => Ok(bytes),
+        Err(FromHexError::OutOfMemory) => Err(NoMemory),
+        Err(_) => panic!(rt; "{word} names no file, and has other bytes than digits"),
+    }
+}
+
+/// A film of that name and its table. Where the bytes are no film the test stops.
+fn stored_film<R: Abort>(
+    rt: &R,
+    alloc: Global,
+    name: &str,
+    bytes: &[u8],
+) -> Result<Stored, NoMemory> {
+    match scan(alloc, Vec::from_slice(alloc, bytes)?) {
+        Ok(film) => Stored::new(alloc, String::new(alloc), film),
+        Err(ScanRefused::NoMemory) => Err(NoMemory),
+        Err(ScanRefused::Fault(_)) => panic!(rt; "no film is named {name}"),
+    }
+}
+
+/// The sizes of a film's units on the wire, as a trace.
+fn trace_of(alloc: Global, film: &Stored) -> Result<Vec<u8>, NoMemory> {
+    let mut text = Vec::new(alloc);
+    for unit in 0..film.film.units.len() {
+        let mut digits = itoa::Buffer::new();
+        push(&mut text, digits.format(film.wire_size(unit)).as_bytes())?;
+        push(&mut text, b"\n")?;
+    }
+    Ok(text)
 }
 
 /// The files of a library, by their names.
@@ -90,6 +151,20 @@ impl Files {
         None
     }
 
+    /// Adds the bytes of a word, which names a file or has hexadecimal digits.
+    fn push_word<R: Abort>(
+        &self,
+        rt: &R,
+        alloc: Global,
+        word: &str,
+        into: &mut Vec<u8>,
+    ) -> Result<(), NoMemory> {
+        match self.bytes(word) {
+            Some(held) => push(into, held),
+            None => push(into, &bytes_of_digits(rt, alloc, word)?),
+        }
+    }
+
     /// The bytes of words, each of which names a file or has hexadecimal digits. At another word
     /// the test stops.
     pub(crate) fn join_words<R: Abort>(
@@ -100,14 +175,7 @@ impl Files {
     ) -> Result<Vec<u8>, NoMemory> {
         let mut bytes = Vec::new(alloc);
         for word in words.split_whitespace() {
-            match self.bytes(word) {
-                Some(held) => bytes.extend_from_slice(held)?,
-                None => match hex::decode(alloc, word) {
-                    Ok(part) => bytes.extend_from_slice(&part)?,
-                    Err(FromHexError::OutOfMemory) => return Err(NoMemory),
-                    Err(_) => panic!(rt; "{word} names no file, and has other bytes than digits"),
-                },
-            }
+            self.push_word(rt, alloc, word, &mut bytes)?;
         }
         Ok(bytes)
     }
@@ -120,33 +188,20 @@ impl Files {
         alloc: Global,
         name: &str,
     ) -> Result<Vec<u8>, NoMemory> {
-        let bytes = self.bytes(name).unwrap_or(&[]);
-        let film = match scan(alloc, Vec::from_slice(alloc, bytes)?) {
-            Ok(film) => film,
-            Err(ScanRefused::NoMemory) => return Err(NoMemory),
-            Err(ScanRefused::Fault(_)) => panic!(rt; "no film is named {name}"),
-        };
-        let film = Stored::new(alloc, String::new(alloc), film)?;
-        let mut text = Vec::new(alloc);
-        for unit in 0..film.film.units.len() {
-            let mut digits = itoa::Buffer::new();
-            text.extend_from_slice(digits.format(film.wire_size(unit)).as_bytes())?;
-            text.push(b'\n')?;
-        }
-        Ok(text)
+        let film = stored_film(rt, alloc, name, self.bytes(name).unwrap_or(&[]))?;
+        trace_of(alloc, &film)
     }
 
     /// A library of these files, of which the calls of these numbers fail.
     pub(crate) fn library(
         &self,
         alloc: Global,
-        failing: Vec<u64>,
+        failing: &[u64],
     ) -> Result<MemoryLibrary, NoMemory> {
         let mut files = Vec::new(alloc);
         for (name, bytes) in &self.held {
-            let bytes = Vec::from_slice(alloc, bytes)?;
-            files.push((String::from_str(alloc, name.as_str())?, bytes))?;
+            push_file(&mut files, alloc, name.as_str(), bytes)?;
         }
-        Ok(MemoryLibrary::new(files, failing))
+        Ok(MemoryLibrary::new(files, Vec::from_slice(alloc, failing)?))
     }
 }

@@ -3,9 +3,9 @@
 
 ghost use Rattle.std.specs.Prelude.{◌≤◌, None, length};
 
-use crate::run::run;
 use crate::run_results::Ended;
 use crate::tests::materials::{library_of_film, words_of};
+use crate::tests::scenes::carry_out;
 use conn::ConnEnd;
 use std::alloc::Global;
 use std::sync::Wait;
@@ -13,7 +13,7 @@ use std::sync::atomic::{AtomicU64, Ordering};
 use std::test::Fail;
 use std::thread::Threads;
 use std::time::Duration;
-use vod_base::{Gate, GateFault, Heard, Link, LinkFault, MemorySink, Opening};
+use vod_base::{Gate, GateFault, Heard, Link, LinkFault, MemorySink, NoMemory, Opening};
 
 /// What the workers' first connections receive at once. The session ids are drawn from the seed of
 /// 32 bytes 7.
@@ -164,47 +164,53 @@ impl<'a, R: Wait> Gate for MeetingGate<'a, R> {
 }
 
 /// Runs the program with these arguments over a library of the film and a gate of two parts.
-fn carry_out<R: Threads + Wait + Sync>(
+fn carry_out_over<R: Threads + Wait + Sync>(
     rt: &R,
     alloc: Global,
     words: &[String],
-    sends: &Sends,
-) -> Result<Ended, Fail> {
+    gate: &mut MeetingGate<'_, R>,
+) -> Result<Ended, NoMemory> {
+    let mut library = library_of_film(alloc)?;
+    let mut out = MemorySink::new(alloc, 1 << 20, Vec::new(alloc))?;
+    let mut err = MemorySink::new(alloc, 1 << 20, Vec::new(alloc))?;
+    Ok(carry_out(rt, alloc, words, &mut library, &mut out, &mut err, gate))
+}
+
+/// The status of a run with this line over a gate of two parts, the length of its journal, the
+/// number of its reports, and whether all the reported connections ended as they should.
+fn meet<R: Threads + Wait + Sync>(
+    rt: &R,
+    alloc: Global,
+    line: &str,
+) -> Result<(u8, usize, usize, bool), NoMemory> {
+    let sends = Sends {
+        first: AtomicU64::new(0),
+        second: AtomicU64::new(0),
+    };
     let mut gate = MeetingGate {
         rt,
-        sends,
+        sends: &sends,
         parts: 0,
         given: false,
         faults: 0,
     };
-    let mut library = library_of_film(alloc)?;
-    let mut out = MemorySink::new(alloc, 1 << 20, Vec::new(alloc))?;
-    let mut err = MemorySink::new(alloc, 1 << 20, Vec::new(alloc))?;
-    Ok(run(
-        rt,
-        alloc,
-        words,
-        &mut library,
-        &mut out,
-        &mut err,
-        &mut gate,
-        [7; 32],
+    let words = words_of(alloc, line)?;
+    let ended = carry_out_over(rt, alloc, &words, &mut gate)?;
+    let is_ended = ended
+        .reports
+        .iter()
+        .all(|report| report.end == ConnEnd::Ended);
+    Ok((
+        ended.status,
+        ended.journal.len(),
+        ended.reports.len(),
+        is_ended,
     ))
 }
 
 #[test]
 fn serves_two_at_the_same_time(rt: HostRuntime) -> Result<(), Fail> {
-    let alloc = rt.alloc();
-    let sends = Sends {
-        first: AtomicU64::new(0),
-        second: AtomicU64::new(0),
-    };
-    let words = words_of(alloc, "serve film=b.mpg workers=2 capacity=100")?;
-    let ended = carry_out(&rt, alloc, &words, &sends)?;
-    assert_eq!(rt; (ended.status, ended.journal.len()), (0, 4));
-    assert_eq!(rt; ended.reports.len(), 2);
-    for report in &ended.reports {
-        assert_eq!(rt; report.end, ConnEnd::Ended);
-    }
+    let met = meet(&rt, rt.alloc(), "serve film=b.mpg workers=2 capacity=100")?;
+    assert_eq!(rt; met, (0, 4, 2, true));
     Ok(())
 }

@@ -1,28 +1,30 @@
 //! What a run left, and the lines of a script that say what that is to be.
 
 use crate::run_results::Ended;
-use crate::tests::materials::{Files, bytes_of, number_of, word_and_rest};
+use crate::tests::materials::{Files, after_text, is_text, number_of, word_and_rest};
 use admission::{Answer, Entry};
 use conn::{ConnEnd, ConnReport};
 use std::alloc::Global;
 use std::process::Abort;
-use vod_base::{MemoryGate, MemorySink, NoMemory};
+use vod_base::{MemoryGate, MemoryLink, MemorySink, NoMemory};
 
 /// What a run left.
 #[derive(Drop)]
 pub(crate) struct Outcome {
     /// The status that it ended with.
     status: u64,
-    /// What it wrote to the output, and no line has read.
+    /// What it wrote to the output.
     out: Vec<u8>,
-    /// Whether a line has looked for a part of the output.
-    is_out_searched: bool,
-    /// What it wrote to the error stream, and no line has read.
+    /// Whether a line has read the output, or looked for a part of it.
+    is_out_read: bool,
+    /// What it wrote to the error stream.
     err: Vec<u8>,
+    /// Whether a line has read the error stream.
+    is_err_read: bool,
     /// How many reports it handed out.
-    reports: usize,
+    reports: u64,
     /// How many entries its journal has.
-    entries: usize,
+    entries: u64,
     /// What each link sent.
     sent: Vec<Vec<u8>>,
     /// How many bytes of the first link's lines have read.
@@ -31,14 +33,19 @@ pub(crate) struct Outcome {
     is_sent_searched: bool,
 }
 
-/// Whether a text stands in bytes.
-fn contains(bytes: &[u8], text: &[u8]) -> bool {
-    text.is_empty() || bytes.windows(text.len()).any(|part| part == text)
+/// Whether a text stands in bytes. In the text `|` means a line's end.
+fn contains(bytes: &[u8], text: &str, end: &[u8]) -> bool {
+    for from in 0..bytes.len() {
+        if after_text(&bytes[from..], text, end).is_some() {
+            return true;
+        }
+    }
+    text.is_empty()
 }
 
-/// Whether a link that sent this reported that memory was out.
-fn is_refused(sent: &[u8]) -> bool {
-    contains(sent, b"RTSP/1.0 500 ")
+/// Whether a link reported that memory was out.
+fn is_refused(link: &MemoryLink) -> bool {
+    contains(link.sent(), "RTSP/1.0 500 ", b"")
 }
 
 /// Whether as many plays were admitted as were halted.
@@ -60,15 +67,43 @@ fn lacked_memory(reports: &[ConnReport]) -> bool {
     reports.iter().any(|report| report.end == ConnEnd::NoMemory)
 }
 
+/// Whether one of these links reported that memory was out.
+fn any_refused(links: &[MemoryLink]) -> bool {
+    links.iter().any(|link| is_refused(link))
+}
+
+/// Adds what each of these links sent.
+fn push_sent(sent: &mut Vec<Vec<u8>>, alloc: Global, links: &[MemoryLink]) -> Result<(), NoMemory> {
+    for link in links {
+        sent.push(Vec::from_slice(alloc, link.sent())?)?;
+    }
+    Ok(())
+}
+
 /// What the links of a gate's first parts sent, in the order in which they came back.
 fn sent_of(alloc: Global, gate: &MemoryGate) -> Result<Vec<Vec<u8>>, NoMemory> {
     let mut sent = Vec::new(alloc);
     for number in 0..2 {
-        for link in gate.given_back(number) {
-            sent.push(Vec::from_slice(alloc, link.sent())?)?;
-        }
+        push_sent(&mut sent, alloc, gate.given_back(number))?;
     }
     Ok(sent)
+}
+
+/// Whether memory ran out in a run.
+fn ran_out(ended: &Ended, gate: &MemoryGate) -> bool {
+    ended.status == 6
+        || lacked_memory(&ended.reports)
+        || any_refused(gate.given_back(0))
+        || any_refused(gate.given_back(1))
+}
+
+/// What stands of these bytes after the payload of a block on channel 0. Other blocks have none.
+fn after_payload<'a>(film: &'a [u8], channel: u8, payload: &[u8]) -> Option<&'a [u8]> {
+    if channel == 0 {
+        film.strip_prefix(payload)
+    } else {
+        Some(film)
+    }
 }
 
 impl Outcome {
@@ -77,8 +112,9 @@ impl Outcome {
         Outcome {
             status: 0,
             out: Vec::new(alloc),
-            is_out_searched: false,
+            is_out_read: true,
             err: Vec::new(alloc),
+            is_err_read: true,
             reports: 0,
             entries: 0,
             sent: Vec::new(alloc),
@@ -97,28 +133,24 @@ impl Outcome {
         err: &MemorySink,
         gate: &MemoryGate,
     ) -> Result<Outcome, NoMemory> {
-        assert!(rt;
-            all_halted(&ended.journal),
-            "a play without its halt at {line}"
-        );
-        if ended.status == 6 {
-            assert!(rt;
-                err.bytes() == b"vodserve: NoMemory\n".as_slice(),
-                "at {line}"
-            );
+        let is_halted = all_halted(&ended.journal);
+        assert!(rt; is_halted, "a play without its halt at {line}");
+        let is_told = ended.status != 6 || is_text(err.bytes(), "vodserve: NoMemory|", b"\n");
+        assert!(rt; is_told, "another error than out of memory at {line}");
+        if ran_out(ended, gate) {
             return Err(NoMemory);
         }
+        let out = Vec::from_slice(alloc, out.bytes())?;
+        let err = Vec::from_slice(alloc, err.bytes())?;
         let sent = sent_of(alloc, gate)?;
-        if lacked_memory(&ended.reports) || sent.iter().any(|sent| is_refused(sent)) {
-            return Err(NoMemory);
-        }
         Ok(Outcome {
             status: u64::from(ended.status),
-            out: Vec::from_slice(alloc, out.bytes())?,
-            is_out_searched: false,
-            err: Vec::from_slice(alloc, err.bytes())?,
-            reports: ended.reports.len(),
-            entries: ended.journal.len(),
+            is_out_read: out.is_empty(),
+            out,
+            is_err_read: err.is_empty(),
+            err,
+            reports: ended.reports.len() as u64,
+            entries: ended.journal.len() as u64,
             sent,
             read: 0,
             is_sent_searched: false,
@@ -142,29 +174,153 @@ impl Outcome {
 
     /// Lines are to have read all that the run left, before that place in the script.
     pub(crate) fn check_all_read<R: Abort>(&self, rt: &R, place: &str) {
-        let is_out_read = self.is_out_searched || self.out.is_empty();
-        assert!(rt; is_out_read, "output before {place}");
-        assert!(rt; self.err.is_empty(), "errors before {place}");
-        assert!(rt; self.all_sent_read(), "bytes of a link before {place}");
+        let is_out_read = self.is_out_read || self.out.is_empty();
+        let read = (is_out_read, self.is_err_read, self.all_sent_read());
+        assert!(rt;
+            read == (true, true, true),
+            "output, errors, bytes of links: not all read before {place}: {read:?}"
+        );
     }
 
-    /// The payloads of the blocks on channel 0 that the first link sent next.
-    fn read_film(&mut self, alloc: Global) -> Result<Vec<u8>, NoMemory> {
-        let mut film = Vec::new(alloc);
+    /// Reads bytes that the first link sent next; returns whether it did.
+    fn reads_sent(&mut self, want: &[u8]) -> bool {
+        let is_next = self.unread_bytes().starts_with(want);
+        self.read = self.read.saturating_add(want.len());
+        is_next
+    }
+
+    /// Reads a reply that the first link sent next; returns whether it did.
+    fn reads_reply(&mut self, text: &str) -> bool {
+        let unread = self.unread_bytes();
+        let Some(rest) = after_text(unread, text, b"\r\n") else {
+            return false;
+        };
+        let count = unread.len().saturating_sub(rest.len());
+        self.read = self.read.saturating_add(count);
+        true
+    }
+
+    /// Reads the blocks that the first link sent next. Returns whether the payloads of those on
+    /// channel 0 are this film, if there is one.
+    fn reads_film(&mut self, film: Option<&[u8]>) -> bool {
+        let Some(mut film) = film else {
+            return false;
+        };
         for _ in 0..self.unread_bytes().len() {
             let [b'$', channel, high, low, after @ ..] = self.unread_bytes() else {
                 break;
             };
             let length = usize::from(*high) * 256 + usize::from(*low);
-            if *channel == 0 {
-                film.extend_from_slice(after.get(16..length).unwrap_or(&[]))?;
-            }
+            let Some(rest) = after_payload(film, *channel, after.get(16..length).unwrap_or(&[]))
+            else {
+                return false;
+            };
+            film = rest;
             self.read = self.read.saturating_add(4 + length);
         }
-        Ok(film)
+        film.is_empty()
     }
 
-    /// Processes a line on what the run left, over these files.
+    /// Whether so many links sent a text.
+    fn was_sent_by(&mut self, count: u64, text: &str) -> bool {
+        self.is_sent_searched = true;
+        let sending = self
+            .sent
+            .iter()
+            .filter(|sent| contains(sent, text, b"\r\n"));
+        sending.count() as u64 == count
+    }
+
+    /// Reads the entire output; returns whether it is this text.
+    fn reads_out(&mut self, text: &str) -> bool {
+        self.is_out_read = true;
+        is_text(&self.out, text, b"\n")
+    }
+
+    /// Reads the entire error stream; returns whether it is this text.
+    fn reads_err(&mut self, text: &str) -> bool {
+        self.is_err_read = true;
+        is_text(&self.err, text, b"\n")
+    }
+
+    /// Reads a status and its entire text.
+    fn ends_with(&mut self, status: u64, text: &str) -> bool {
+        self.status == status
+            && if status < 2 {
+                self.reads_out(text)
+            } else {
+                self.reads_err(text)
+            }
+    }
+
+    /// Looks for a part of the output.
+    fn has_in_output(&mut self, text: &str) -> bool {
+        self.is_out_read = true;
+        contains(&self.out, text, b"\n")
+    }
+
+    /// Reads the entire output; returns whether it is a file.
+    fn reads_file(&mut self, file: Option<&[u8]>) -> bool {
+        self.is_out_read = true;
+        file == Some(self.out.as_slice())
+    }
+
+    /// Whether the run left what a line says.
+    fn is_as_said(&mut self, files: &Files, word: &str, rest: &str) -> bool {
+        let (first, more) = word_and_rest(rest);
+        match word {
+            "out" => self.reads_out(rest),
+            "err" => self.reads_err(rest),
+            "is" => self.reads_file(files.bytes(first)),
+            "has" => self.has_in_output(rest),
+            "ends" => self.status == number_of(first),
+            "counts" => self.reports == number_of(first) && self.entries == number_of(more),
+            "says" => self.reads_reply(rest),
+            "plays" => self.reads_film(files.bytes(first)),
+            "said" => self.was_sent_by(number_of(first), more),
+            _ => self.ends_with(number_of(word), rest),
+        }
+    }
+
+    /// The beginning of what the run wrote: to the error stream, or else to the output.
+    fn found(&self, alloc: Global) -> Result<String, NoMemory> {
+        let text = if self.err.is_empty() {
+            self.out.as_slice()
+        } else {
+            self.err.as_slice()
+        };
+        Ok(String::from_utf8_lossy(alloc, text.get(..4_000).unwrap_or(text))?)
+    }
+
+    /// Makes a file of the output.
+    fn keep_output(
+        &mut self,
+        alloc: Global,
+        files: &mut Files,
+        name: &str,
+    ) -> Result<bool, NoMemory> {
+        let out = std::mem::replace(&mut self.out, Vec::new(alloc));
+        files.keep(alloc, name, out)?;
+        Ok(true)
+    }
+
+    /// Processes a line on what the run left, over these files. Returns whether it is so.
+    fn process<R: Abort>(
+        &mut self,
+        rt: &R,
+        alloc: Global,
+        files: &mut Files,
+        word: &str,
+        rest: &str,
+    ) -> Result<bool, NoMemory> {
+        match word {
+            "keeps" => self.keep_output(alloc, files, rest),
+            "sends" => Ok(self.reads_sent(&files.join_words(rt, alloc, rest)?)),
+            _ => Ok(self.is_as_said(files, word, rest)),
+        }
+    }
+
+    /// Processes a line on what the run left, over these files. The test stops where it isn't so.
     pub(crate) fn check<R: Abort>(
         &mut self,
         rt: &R,
@@ -173,105 +329,10 @@ impl Outcome {
         word: &str,
         rest: &str,
     ) -> Result<(), NoMemory> {
-        let (first, more) = word_and_rest(rest);
-        match word {
-            "out" | "err" => self.read_text(rt, alloc, word == "out", rest)?,
-            "is" => {
-                let out = std::mem::replace(&mut self.out, Vec::new(alloc));
-                assert!(rt;
-                    files.bytes(first) == Some(out.as_slice()),
-                    "another output than {first}"
-                );
-            }
-            "has" => {
-                let want = bytes_of(alloc, rest, b"\n")?;
-                assert!(rt; contains(&self.out, &want), "not in the output: {rest}");
-                self.is_out_searched = true;
-            }
-            "keeps" => {
-                let out = std::mem::replace(&mut self.out, Vec::new(alloc));
-                files.keep(alloc, first, out)?;
-            }
-            "ends" => assert_eq!(rt; self.status, number_of(first)),
-            "counts" => {
-                assert_eq!(rt; self.reports as u64, number_of(first), "reports");
-                assert_eq!(rt; self.entries as u64, number_of(more), "entries");
-            }
-            _ => self.check_sent(rt, alloc, files, word, rest)?,
+        if self.process(rt, alloc, files, word, rest)? {
+            return Ok(());
         }
-        Ok(())
-    }
-
-    /// Processes a line on what was sent, or on a status and its text.
-    fn check_sent<R: Abort>(
-        &mut self,
-        rt: &R,
-        alloc: Global,
-        files: &Files,
-        word: &str,
-        rest: &str,
-    ) -> Result<(), NoMemory> {
-        let (first, more) = word_and_rest(rest);
-        match word {
-            "says" => {
-                let want = bytes_of(alloc, rest, b"\r\n")?;
-                assert!(rt;
-                    self.unread_bytes().starts_with(&want),
-                    "another reply than {rest}"
-                );
-                self.read = self.read.saturating_add(want.len());
-            }
-            "sends" => {
-                let want = files.join_words(rt, alloc, rest)?;
-                assert!(rt;
-                    self.unread_bytes().starts_with(&want),
-                    "other bytes than {rest}"
-                );
-                self.read = self.read.saturating_add(want.len());
-            }
-            "plays" => {
-                let film = self.read_film(alloc)?;
-                assert!(rt;
-                    files.bytes(first) == Some(film.as_slice()),
-                    "another film than {first}"
-                );
-            }
-            "said" => {
-                let want = bytes_of(alloc, more, b"\r\n")?;
-                let mut count = 0u64;
-                for sent in &self.sent {
-                    count = count.saturating_add(u64::from(contains(sent, &want)));
-                }
-                assert_eq!(rt; count, number_of(first), "at {more}");
-                self.is_sent_searched = true;
-            }
-            _ => {
-                assert_eq!(rt; self.status, number_of(word), "at {word} {rest}");
-                self.read_text(rt, alloc, word == "0" || word == "1", rest)?;
-            }
-        }
-        Ok(())
-    }
-
-    /// Reads the entire text of the output, or of the error stream.
-    fn read_text<R: Abort>(
-        &mut self,
-        rt: &R,
-        alloc: Global,
-        is_out: bool,
-        text: &str,
-    ) -> Result<(), NoMemory> {
-        let want = bytes_of(alloc, text, b"\n")?;
-        let got = if is_out {
-            std::mem::replace(&mut self.out, Vec::new(alloc))
-        } else {
-            std::mem::replace(&mut self.err, Vec::new(alloc))
-        };
-        assert!(rt;
-            got.as_slice() == want.as_slice(),
-            "not {text} but {}",
-            String::from_utf8_lossy(alloc, &got)?
-        );
-        Ok(())
+        let found = self.found(alloc)?;
+        panic!(rt; "not {word} {rest} but {found}")
     }
 }

@@ -6,10 +6,14 @@ use crate::tests::materials::{Files, bytes_of, number_of, word_and_rest, words_o
 use crate::tests::outcomes::Outcome;
 use std::alloc::Global;
 use std::process::Abort;
+use std::slice;
 use std::sync::Wait;
 use std::test::Fail;
 use std::thread::Threads;
-use vod_base::{Event, MemoryGate, MemoryLibrary, MemoryLink, MemoryPart, MemorySink, NoMemory};
+use vod_base::{
+    Event, Gate, Library, MemoryGate, MemoryLibrary, MemoryLink, MemoryPart, MemorySink, NoMemory,
+    Sink,
+};
 
 /// The most bytes that an object in memory holds.
 const ROOM: usize = 1 << 25;
@@ -28,24 +32,38 @@ pub(crate) fn pass_all<R: Threads + Wait + Sync + Abort>(
     Ok(())
 }
 
-/// A script of inputs that are refused, each with its fault. A line of that kind makes a file of an
-/// input, and the command takes the file by its key.
+/// A script of inputs that are refused. Each row of the cases has a fault, `:` and the input. A
+/// line of that kind makes a file of an input, and the command takes the file by its key.
 pub(crate) fn refusals_of(
     alloc: Global,
     kind: &str,
     command: &str,
-    cases: &[(&str, &str)],
+    cases: &str,
 ) -> Result<String, NoMemory> {
     let mut script = String::new(alloc);
-    for (number, (input, fault)) in cases.iter().enumerate() {
-        let file = format!(in alloc; "{kind} case{number} {input}\n")?;
-        let run = format!(in alloc; "> {command}=case{number}\n")?;
-        let line = format!(in alloc; "3 vodserve: case{number}: {fault}|\n")?;
-        script.push_str(file.as_str())?;
-        script.push_str(run.as_str())?;
-        script.push_str(line.as_str())?;
+    for (number, row) in cases.lines().enumerate() {
+        push_case(&mut script, alloc, number, kind, command, row)?;
     }
     Ok(script)
+}
+
+/// Adds one of these cases.
+fn push_case(
+    script: &mut String,
+    alloc: Global,
+    number: usize,
+    kind: &str,
+    command: &str,
+    row: &str,
+) -> Result<(), NoMemory> {
+    let (fault, input) = row.split_once(':').unwrap_or((row, ""));
+    let file = format!(in alloc; "{kind} case{number} {input}\n")?;
+    script.push_str(file.as_str())?;
+    let run = format!(in alloc; "> {command}=case{number}\n")?;
+    script.push_str(run.as_str())?;
+    let line = format!(in alloc; "3 vodserve: case{number}: {fault}|\n")?;
+    script.push_str(line.as_str())?;
+    Ok(())
 }
 
 /// The objects of the next run, and what the last run left that no line has read yet.
@@ -102,17 +120,43 @@ fn first_events(alloc: Global, events: &[Event], count: u64) -> Result<Vec<Event
     Ok(copies)
 }
 
-/// Runs the program with these arguments. This is the one call of `run` of the tests.
-fn carry_out<R: Threads + Wait + Sync>(
+/// Runs the program with these arguments, over any objects. This is the one call of `run` of the
+/// tests: the proof of such a call repeats what is known of its objects, and of these it is little.
+pub(crate) fn carry_out<R, L: Library, S: Sink, G: Gate + Send + Drop>(
     rt: &R,
     alloc: Global,
     words: &[String],
-    library: &mut MemoryLibrary,
-    out: &mut MemorySink,
-    err: &mut MemorySink,
-    gate: &mut MemoryGate,
-) -> Ended {
+    library: &mut L,
+    out: &mut S,
+    err: &mut S,
+    gate: &mut G,
+) -> Ended
+where
+    R: Threads + Wait + Sync,
+    G::Conn: Send,
+{
     run(rt, alloc, words, library, out, err, gate, [7; 32])
+}
+
+/// What is left by a run over this library and this gate. The error is out of memory.
+fn left_by<R: Threads + Wait + Sync + Abort>(
+    rt: &R,
+    alloc: Global,
+    line: &str,
+    library: &mut MemoryLibrary,
+    gate: &mut MemoryGate,
+    failing: &Failing,
+) -> Result<Outcome, NoMemory> {
+    let words = words_of(alloc, line)?;
+    let mut out = sink_of(alloc, &failing.out)?;
+    let mut err = sink_of(alloc, &failing.err)?;
+    let ended = carry_out(rt, alloc, &words, library, &mut out, &mut err, gate);
+    Outcome::of_run(rt, alloc, line, &ended, &out, &err, gate)
+}
+
+/// A sink of which the calls of these numbers fail.
+fn sink_of(alloc: Global, failing: &[u64]) -> Result<MemorySink, NoMemory> {
+    MemorySink::new(alloc, ROOM, Vec::from_slice(alloc, failing)?)
 }
 
 impl Stage {
@@ -128,6 +172,16 @@ impl Stage {
         }
     }
 
+    /// The gate of the next run.
+    fn gate(&mut self, alloc: Global) -> Result<MemoryGate, NoMemory> {
+        let failing = Vec::from_slice(alloc, &self.failing.gate)?;
+        MemoryGate::new(
+            alloc,
+            std::mem::replace(&mut self.parts, Vec::new(alloc)),
+            failing,
+        )
+    }
+
     /// Runs the program with these arguments. The error is out of memory.
     fn run<R: Threads + Wait + Sync + Abort>(
         &mut self,
@@ -135,85 +189,102 @@ impl Stage {
         alloc: Global,
         line: &str,
     ) -> Result<(), NoMemory> {
-        let words = words_of(alloc, line)?;
-        let failing = std::mem::replace(&mut self.failing, no_failing(alloc));
-        let mut library = self.files.library(alloc, failing.library)?;
-        let mut out = MemorySink::new(alloc, ROOM, failing.out)?;
-        let mut err = MemorySink::new(alloc, ROOM, failing.err)?;
-        let parts = std::mem::replace(&mut self.parts, Vec::new(alloc));
-        let mut gate = MemoryGate::new(alloc, parts, failing.gate)?;
-        let ended = carry_out(
-            rt,
-            alloc,
-            &words,
-            &mut library,
-            &mut out,
-            &mut err,
-            &mut gate,
-        );
-        self.left = Outcome::of_run(rt, alloc, line, &ended, &out, &err, &gate)?;
+        self.left.check_all_read(rt, line);
+        let mut library = self.files.library(alloc, &self.failing.library)?;
+        let mut gate = self.gate(alloc)?;
+        self.left = left_by(rt, alloc, line, &mut library, &mut gate, &self.failing)?;
+        self.failing = no_failing(alloc);
         Ok(())
     }
 
-    /// Processes a line on the objects of the next run; returns whether it is one.
-    fn set<R: Abort>(
+    /// Puts a file into the library.
+    fn add_file<R: Abort>(
+        &mut self,
+        rt: &R,
+        alloc: Global,
+        word: &str,
+        name: &str,
+        text: &str,
+    ) -> Result<(), NoMemory> {
+        let bytes = match word {
+            "file" => bytes_of(alloc, text, b"\n")?,
+            "reply" => bytes_of(alloc, text, b"\r\n")?,
+            "bytes" => self.files.join_words(rt, alloc, text)?,
+            _ => self.files.sizes_of(rt, alloc, text)?,
+        };
+        self.files.keep(alloc, name, bytes)
+    }
+
+    /// Adds an event of the next link: bytes arrive.
+    fn add_bytes(&mut self, bytes: Vec<u8>) -> Result<(), NoMemory> {
+        self.events.push(Event::Bytes(bytes))?;
+        Ok(())
+    }
+
+    /// Adds an event of the next link: the bytes of words arrive.
+    fn add_words<R: Abort>(&mut self, rt: &R, alloc: Global, words: &str) -> Result<(), NoMemory> {
+        let bytes = self.files.join_words(rt, alloc, words)?;
+        self.add_bytes(bytes)
+    }
+
+    /// Adds events of the next link: slots begin.
+    fn add_slots(&mut self, first: u64, last: u64) -> Result<(), NoMemory> {
+        for slot in first..=last {
+            self.events.push(Event::Slot(slot))?;
+        }
+        Ok(())
+    }
+
+    /// Takes the first so many events of the link of the last part.
+    fn repeat(&mut self, alloc: Global, count: u64) -> Result<(), NoMemory> {
+        self.events = first_events(alloc, &self.last_events, count)?;
+        Ok(())
+    }
+
+    /// Processes a line. The test stops where it says what isn't so.
+    fn process<R: Threads + Wait + Sync + Abort>(
         &mut self,
         rt: &R,
         alloc: Global,
         word: &str,
         rest: &str,
-    ) -> Result<bool, NoMemory> {
+    ) -> Result<(), NoMemory> {
         let (first, more) = word_and_rest(rest);
         match word {
-            "file" => self
-                .files
-                .keep(alloc, first, bytes_of(alloc, more, b"\n")?)?,
-            "reply" => self
-                .files
-                .keep(alloc, first, bytes_of(alloc, more, b"\r\n")?)?,
-            "bytes" => {
-                let bytes = self.files.join_words(rt, alloc, more)?;
-                self.files.keep(alloc, first, bytes)?;
-            }
-            "sizes" => {
-                let sizes = self.files.sizes_of(rt, alloc, more)?;
-                self.files.keep(alloc, first, sizes)?;
-            }
-            "hears" => self
-                .events
-                .push(Event::Bytes(bytes_of(alloc, rest, b"\r\n")?))?,
-            "gets" => {
-                let bytes = self.files.join_words(rt, alloc, rest)?;
-                self.events.push(Event::Bytes(bytes))?;
-            }
-            "slots" => {
-                for slot in number_of(first)..=number_of(more) {
-                    self.events.push(Event::Slot(slot))?;
-                }
-            }
-            "again" => {
-                self.events = first_events(alloc, &self.last_events, number_of(first))?;
-            }
-            "part" => {
-                let events = std::mem::replace(&mut self.events, Vec::new(alloc));
-                self.last_events = first_events(alloc, &events, events.len() as u64)?;
-                self.push_part(alloc, events, number_of(first))?;
-            }
-            "fails" => self.fail(first, number_of(more))?,
-            _ => return Ok(false),
+            "" | "#" => Ok(()),
+            ">" => self.run(rt, alloc, rest),
+            "file" | "reply" | "bytes" | "sizes" => self.add_file(rt, alloc, word, first, more),
+            "hears" => self.add_bytes(bytes_of(alloc, rest, b"\r\n")?),
+            "gets" => self.add_words(rt, alloc, rest),
+            "slots" => self.add_slots(number_of(first), number_of(more)),
+            "again" => self.repeat(alloc, number_of(first)),
+            "part" => self.add_part(alloc, number_of(first)),
+            "fails" => self.fail(first, number_of(more)),
+            _ => self.left.check(rt, alloc, &mut self.files, word, rest),
         }
-        Ok(true)
     }
 
-    /// Adds a part of the gate with one link that has these events. Its call of `take` of that
+    /// Processes the lines of a script. After the last one, lines have read all that the run left.
+    fn process_all<R: Threads + Wait + Sync + Abort>(
+        &mut self,
+        rt: &R,
+        alloc: Global,
+        script: &str,
+    ) -> Result<(), NoMemory> {
+        for line in script.lines() {
+            let (word, rest) = word_and_rest(line);
+            self.process(rt, alloc, word, rest)?;
+        }
+        self.left.check_all_read(rt, "the end");
+        Ok(())
+    }
+
+    /// Adds a part of the gate with one link, which has the events. Its call of `take` of that
     /// number fails.
-    fn push_part(&mut self, alloc: Global, events: Vec<Event>, fails: u64) -> Result<(), NoMemory> {
-        let link = MemoryLink::new(alloc, events, ROOM, Vec::new(alloc), Vec::new(alloc))?;
-        let mut links = Vec::new(alloc);
-        links.push(link)?;
-        let mut failing = Vec::new(alloc);
-        failing.push(fails)?;
-        self.parts.push(MemoryPart { links, failing })?;
+    fn add_part(&mut self, alloc: Global, fails: u64) -> Result<(), NoMemory> {
+        let events = std::mem::replace(&mut self.events, Vec::new(alloc));
+        self.last_events = first_events(alloc, &events, events.len() as u64)?;
+        self.parts.push(part_of(alloc, events, fails)?)?;
         Ok(())
     }
 
@@ -228,6 +299,15 @@ impl Stage {
         calls.push(number)?;
         Ok(())
     }
+}
+
+/// A part of a gate with one link that has these events. Its call of `take` of that number fails.
+fn part_of(alloc: Global, events: Vec<Event>, fails: u64) -> Result<MemoryPart, NoMemory> {
+    let link = MemoryLink::new(alloc, events, ROOM, Vec::new(alloc), Vec::new(alloc))?;
+    let mut links = Vec::new(alloc);
+    links.push(link)?;
+    let failing = Vec::from_slice(alloc, slice::from_ref(&fails))?;
+    Ok(MemoryPart { links, failing })
 }
 
 /// Processes the lines of a script, one after another.
@@ -246,16 +326,5 @@ fn play_out<R: Threads + Wait + Sync + Abort>(
     alloc: Global,
     script: &str,
 ) -> Result<(), NoMemory> {
-    let mut stage = Stage::new(alloc);
-    for line in script.lines() {
-        let (word, rest) = word_and_rest(line);
-        if word == ">" {
-            stage.left.check_all_read(rt, rest);
-            stage.run(rt, alloc, rest)?;
-        } else if !line.is_empty() && word != "#" && !stage.set(rt, alloc, word, rest)? {
-            stage.left.check(rt, alloc, &mut stage.files, word, rest)?;
-        }
-    }
-    stage.left.check_all_read(rt, "the end");
-    Ok(())
+    Stage::new(alloc).process_all(rt, alloc, script)
 }
