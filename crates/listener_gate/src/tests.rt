@@ -1,6 +1,6 @@
 //! Over a listener in memory.
 
-use super::ListenerDoing::{Accepted, Bound, ShortageError, TransientError, Waited};
+use super::ListenerDoing::Accepted;
 use super::*;
 use std::alloc::{AllocError, Global};
 use std::fmt;
@@ -14,51 +14,20 @@ const HOW: Opening = Opening {
     slot_units: 14_400,
 };
 
-/// What an accept gives: a connection that says nothing, or an error.
-#[derive(Clone, Copy)]
-enum Give {
-    Conn,
-    Fails(AcceptError),
-}
-
-const LOST: Give = Give::Fails(AcceptError::Transient);
-
-const SHORT: Give = Give::Fails(AcceptError::Shortage);
-
-const BROKEN: Give = Give::Fails(AcceptError::Broken);
-
-/// A listener whose accepts give these, and of which one call fails, if any.
-fn listener_of(
-    alloc: Global,
-    gives: &[Give],
-    failing: Option<u64>,
-) -> Result<MemoryListener, AllocError> {
-    let mut accepts = Vec::new(alloc);
-    for give in gives {
-        accepts.push(match give {
-            Give::Conn => Ok(Vec::new(alloc)),
-            Give::Fails(error) => Err(*error),
+/// A listener with these accepts: a connection that says nothing (`c`), or an error (`l` lost, `s`
+/// short, `b` broken). One call fails, unless its number is 0.
+fn listener_of(alloc: Global, accepts: &str, failing: u64) -> Result<MemoryListener, AllocError> {
+    let mut script = Vec::new(alloc);
+    for accept in accepts.chars() {
+        script.push(match accept {
+            'c' => Ok(Vec::new(alloc)),
+            'l' => Err(AcceptError::Transient),
+            's' => Err(AcceptError::Shortage),
+            _ => Err(AcceptError::Broken),
         })?;
     }
-    let mut calls = Vec::new(alloc);
-    if let Some(call) = failing {
-        calls.push(call)?;
-    }
-    Ok(MemoryListener::new(alloc, accepts, Vec::new(alloc), calls))
-}
-
-/// An open gate over such a listener.
-fn open_gate(
-    alloc: Global,
-    gives: &[Give],
-    failing: Option<u64>,
-    how: &Opening,
-) -> Result<ListenerGate<MemoryListener>, Fail> {
-    let mut gate = ListenerGate::new(listener_of(alloc, gives, failing)?);
-    match gate.open(how) {
-        Ok(()) => Ok(gate),
-        Err(GateFault) => Err(Fail::from("not open")),
-    }
+    let calls = Vec::from_slice(alloc, &[failing])?;
+    Ok(MemoryListener::new(alloc, script, Vec::new(alloc), calls))
 }
 
 /// What a `take` answered: a connection, none, or a fault. A connection goes back.
@@ -70,87 +39,121 @@ fn taken(gate: &mut ListenerGate<MemoryListener>) -> char {
     }
 }
 
-#[test]
-fn takes_as_many_as_it_may(rt: HostRuntime) -> Result<(), Fail> {
-    let gives = [Give::Conn; 4];
-    for (connections, want) in [(0, "ccccff"), (1, "cnnnnn"), (3, "cccnnn")] {
-        let how = Opening { connections, ..HOW };
-        let mut gate = open_gate(rt.alloc(), &gives, None, &how)?;
-        for answer in want.chars() {
-            assert_eq!(rt; taken(&mut gate), answer, "of {connections}");
+/// What an `open` answered: that it is done, or a fault.
+fn opened(gate: &mut ListenerGate<MemoryListener>, how: &Opening) -> char {
+    match gate.open(how) {
+        Ok(()) => 'k',
+        Err(GateFault) => 'f',
+    }
+}
+
+/// What a call of a gate answers: `t` takes a connection, `o` opens it, and `a` opens it at all
+/// addresses.
+fn answer(gate: &mut ListenerGate<MemoryListener>, connections: u64, call: char) -> char {
+    match call {
+        't' => taken(gate),
+        _ => {
+            let all = call == 'a';
+            let how = Opening {
+                all,
+                connections,
+                ..HOW
+            };
+            opened(gate, &how)
         }
     }
-    Ok(())
+}
+
+/// Whether a gate answers calls so.
+fn answers(
+    gate: &mut ListenerGate<MemoryListener>,
+    connections: u64,
+    calls: &str,
+    wants: &str,
+) -> bool {
+    let mut is_same = calls.len() == wants.len();
+    for (call, want) in calls.chars().zip(wants.chars()) {
+        is_same &= answer(gate, connections, call) == want;
+    }
+    is_same
+}
+
+/// A column of a row.
+fn column(row: &str, number: usize) -> &str {
+    row.split('|').nth(number).unwrap_or("")
+}
+
+/// The number in a column of a row, or 0.
+fn number(row: &str, number: usize) -> u64 {
+    column(row, number).parse::<u64>().unwrap_or(0)
+}
+
+/// Whether a row holds. It has the accepts of a listener, its call that fails, the connections that
+/// a gate over it gives, calls of the gate, their answers, and what the listener did, if that is
+/// looked at.
+fn holds(alloc: Global, row: &str) -> bool {
+    let Ok(listener) = listener_of(alloc, column(row, 0), number(row, 1)) else {
+        return false;
+    };
+    let mut gate = ListenerGate::new(listener);
+    let did = column(row, 5);
+    answers(&mut gate, number(row, 2), column(row, 3), column(row, 4))
+        && (did.is_empty() || is_printed(alloc, &gate.listener().doings(), did))
+}
+
+/// The first row that doesn't hold.
+fn wrong_row(alloc: Global, rows: &'static str) -> &'static str {
+    for row in rows.lines() {
+        if !holds(alloc, row) {
+            return row;
+        }
+    }
+    ""
+}
+
+#[test]
+fn takes_as_many_as_it_may(rt: HostRuntime) {
+    let rows = "\
+cccc|0|0|otttttt|kccccff
+cccc|0|1|otttttt|kcnnnnn
+cccc|0|3|otttttt|kcccnnn
+";
+    assert_eq!(rt; wrong_row(rt.alloc(), rows), "");
 }
 
 /// What the listener does for two connections, where the shortages before the first make the gate
 /// wait longer and longer, up to a second.
-const DOINGS: [ListenerDoing; 22] = [
-    Bound([127, 0, 0, 1], 554, 14_400),
-    ShortageError,
-    Waited(10),
-    ShortageError,
-    Waited(20),
-    TransientError,
-    ShortageError,
-    Waited(40),
-    ShortageError,
-    Waited(80),
-    ShortageError,
-    Waited(160),
-    ShortageError,
-    Waited(320),
-    ShortageError,
-    Waited(640),
-    ShortageError,
-    Waited(1_000),
-    Accepted,
-    ShortageError,
-    Waited(10),
-    Accepted,
-];
+const SHORTAGES: &str = "\
+sslssssssc\
+sc|0|3|ott|kcc|[Bound([127, 0, 0, 1], 554, 14400), \
+ShortageError, Waited(10), ShortageError, Waited(20), TransientError, \
+ShortageError, Waited(40), ShortageError, Waited(80), ShortageError, Waited(160), \
+ShortageError, Waited(320), ShortageError, Waited(640), ShortageError, Waited(1000), Accepted, \
+ShortageError, Waited(10), Accepted]
+";
 
 #[test]
-fn waits_out_shortages(rt: HostRuntime) -> Result<(), Fail> {
-    let mut gives = [SHORT; 12];
-    gives[2] = LOST;
-    gives[9] = Give::Conn;
-    gives[11] = Give::Conn;
-    let mut gate = open_gate(rt.alloc(), &gives, None, &HOW)?;
-    assert_eq!(rt; (taken(&mut gate), taken(&mut gate)), ('c', 'c'));
-    assert_eq!(rt; gate.listener().doings(), DOINGS.as_slice());
-    Ok(())
+fn waits_out_shortages(rt: HostRuntime) {
+    assert_eq!(rt; wrong_row(rt.alloc(), SHORTAGES), "");
 }
 
-/// What the first `take` of such a gate answers.
-fn first_taken(alloc: Global, gives: &[Give], failing: Option<u64>) -> Result<char, Fail> {
-    let mut gate = open_gate(alloc, gives, failing, &HOW)?;
-    Ok(taken(&mut gate))
-}
+/// The accept is broken, the wait fails, and the script is at its end.
+const FAULTS: &str = "\
+lb|0|3|ot|kf
+sc|2|3|ot|kf
+|0|3|ot|kf
+";
 
 #[test]
-fn fails_where_the_listener_fails(rt: HostRuntime) -> Result<(), Fail> {
-    let alloc = rt.alloc();
-    let broken = first_taken(alloc, &[LOST, BROKEN], None)?;
-    assert_eq!(rt; broken, 'f', "the accept is broken");
-    let waiting = first_taken(alloc, &[SHORT, Give::Conn], Some(2))?;
-    assert_eq!(rt; waiting, 'f', "the wait fails");
-    let ended = first_taken(alloc, &[], None)?;
-    assert_eq!(rt; ended, 'f', "the script is at its end");
-    Ok(())
+fn fails_where_the_listener_fails(rt: HostRuntime) {
+    assert_eq!(rt; wrong_row(rt.alloc(), FAULTS), "");
 }
 
+/// The gate isn't open, then it isn't bound, and then it is.
 #[test]
-fn opens_after_a_fault(rt: HostRuntime) -> Result<(), Fail> {
-    let mut gate = ListenerGate::new(listener_of(rt.alloc(), &[Give::Conn], Some(1))?);
-    assert_eq!(rt; taken(&mut gate), 'f', "not open");
-    assert_eq!(rt; gate.open(&HOW), Err(GateFault));
-    assert_eq!(rt; taken(&mut gate), 'f', "not bound");
-    assert_eq!(rt; gate.open(&Opening { all: true, ..HOW }), Ok(()));
-    assert_eq!(rt; taken(&mut gate), 'c');
-    let want = [Bound([0, 0, 0, 0], 554, 14_400), Accepted];
-    assert_eq!(rt; gate.listener().doings(), want.as_slice());
-    Ok(())
+fn opens_after_a_fault(rt: HostRuntime) {
+    let row = "c|1|3|totat|fffkc|[Bound([0, 0, 0, 0], 554, 14400), Accepted]";
+    assert_eq!(rt; wrong_row(rt.alloc(), row), "");
 }
 
 /// A gate that gives one connection of each part, and whose one part gives two connections.
@@ -163,9 +166,9 @@ fn gate_of_one_part(alloc: Global) -> Result<ListenerGate<MemoryListener>, Alloc
     Ok(ListenerGate::new(MemoryListener::new(alloc, Vec::new(alloc), scripts, Vec::new(alloc))))
 }
 
-#[test]
-fn parts_go_out_and_come_back(rt: HostRuntime) -> Result<(), Fail> {
-    let mut gate = gate_of_one_part(rt.alloc())?;
+/// How many connections a part ended, whether it did what it should, and what its gate did.
+fn part_history(alloc: Global) -> Result<(u64, bool, usize), Fail> {
+    let mut gate = gate_of_one_part(alloc)?;
     let how = Opening {
         connections: 1,
         ..HOW
@@ -180,27 +183,44 @@ fn parts_go_out_and_come_back(rt: HostRuntime) -> Result<(), Fail> {
         return Err(Fail::from("no connection"));
     };
     part.give_back(conn);
-    assert_eq!(rt; part.listener().ended(), 1);
-    assert_eq!(rt; part.listener().doings(), [Accepted].as_slice());
+    let ended = part.listener().ended();
+    let is_accepted = matches!(part.listener().doings(), [Accepted]);
     gate.rejoin(part);
-    assert_eq!(rt; gate.listener().doings().len(), 2);
+    Ok((ended, is_accepted, gate.listener().doings().len()))
+}
+
+#[test]
+fn parts_go_out_and_come_back(rt: HostRuntime) -> Result<(), Fail> {
+    assert_eq!(rt; part_history(rt.alloc())?, (1, true, 2));
     Ok(())
 }
 
-/// The numbers are those of errno(3) in Linux.
+/// The error numbers of each meaning, which are those of errno(3) in Linux.
+const MEANINGS: &str = "\
+Shortage 12 23 24 105
+Transient 1 4 64 71 92 95 100 101 103 112 113
+Broken 9 13 22 88 11
+";
+
+/// Whether the error numbers of a row have its meaning.
+fn has_meaning(alloc: Global, row: &str) -> bool {
+    let Some((meaning, numbers)) = row.split_once(' ') else {
+        return false;
+    };
+    let mut is_same = true;
+    for number in numbers.split(' ') {
+        let Ok(number) = number.parse::<i32>() else {
+            return false;
+        };
+        is_same &= is_printed(alloc, &accept_error_of(Some(number)), meaning);
+    }
+    is_same
+}
+
 #[test]
 fn error_numbers_have_their_meaning(rt: HostRuntime) {
-    for (numbers, meaning) in [
-        ([12, 23, 24, 105].as_slice(), AcceptError::Shortage),
-        (
-            &[1, 4, 64, 71, 92, 95, 100, 101, 103, 112, 113],
-            AcceptError::Transient,
-        ),
-        (&[9, 13, 22, 88, 11], AcceptError::Broken),
-    ] {
-        for number in numbers {
-            assert_eq!(rt; accept_error_of(Some(*number)), meaning, "{number}");
-        }
+    for row in MEANINGS.lines() {
+        assert!(rt; has_meaning(rt.alloc(), row), "{row}");
     }
     assert_eq!(rt; accept_error_of(None), AcceptError::Broken);
 }
