@@ -4,10 +4,9 @@
 ghost use Rattle.film_streams.specs.SettingRanges.{AreFilms};
 
 use crate::films::server_films;
-use crate::link_scripts::{Failing, Visit, serve_all, station_of};
-use crate::script_text::expect;
-use admission::{Answer, Book};
-use conn::{ConnEnd, ConnReport};
+use crate::link_scripts::{journal_after, serve_all};
+use crate::script_text::{expect, in_full, numbers_of};
+use conn::ConnReport;
 use film_frames::Stored;
 use plan_cert::Segment;
 use session::{PlayNote, Receipt};
@@ -18,68 +17,37 @@ use std::sync::Wait;
 use std::test::Fail;
 use vod_base::NoMemory;
 
-/// Abbreviations of lines: a session set up for `b.mpg` with a start delay of two slots and
-/// its play from the first picture, the replies to these requests, and the film's report and
-/// pictures.
-const PHRASES: [(&str, &str); 5] = [
-    (
-        "asks SETUP and PLAY",
-        "hears SETUP rtsp://h/b.mpg RTSP/1.0|CSeq: 1|\
-        Transport: RTP/AVP/TCP;unicast;interleaved=0-1|x-Startup: 2||\n\
-        hears PLAY rtsp://h/b.mpg RTSP/1.0|CSeq: 2|Session: 0123456789abcdef||",
-    ),
-    (
-        "answers SETUP and PLAY",
-        "says RTSP/1.0 200 OK|CSeq: 1|Transport: RTP/AVP/TCP;unicast;interleaved=0-1;ssrc=01020304|\
-        Session: 0123456789abcdef||\n\
-        says RTSP/1.0 200 OK|CSeq: 2|Session: 0123456789abcdef|Range: npt=0.000-0.080|\
-        RTP-Info: url=rtsp://h/b.mpg/video;seq=1;rtptime=0|x-Start: 1||",
-    ),
-    (
-        "sends the report",
-        "sends 24010030 80c80006 01020304 00000000 00000000 00000000 00000000 00000000 \
-        81ca0004 01020304 0108766f 64736572 76650000",
-    ),
-    (
-        "sends the first picture",
-        "sends 24000032 80a00001 00000000 01020304 00003900 000001b316012013ffffe0a0 \
-        000001b800080040 00000100000ffff8 000001011234",
-    ),
-    (
-        "sends the second picture",
-        "sends 2400001f 80a00002 00000e10 01020304 00011a01 000001000057fff880 000001011234",
-    ),
-];
+/// Abbreviations of lines, each before the lines that it means: a session set up for `b.mpg` with a
+/// start delay of two slots and its play from the first picture, the replies to these requests, and
+/// the film's report and pictures.
+const PHRASES: &str = "\
+asks SETUP and PLAY
+hears SETUP rtsp://h/b.mpg RTSP/1.0|CSeq: 1|Transport: RTP/AVP/TCP;unicast;interleaved=0-1|\
+x-Startup: 2||
+hears PLAY rtsp://h/b.mpg RTSP/1.0|CSeq: 2|Session: 0123456789abcdef||
 
-/// Returns the lines that an abbreviation means.
-fn phrase_of(line: &'static str) -> &'static str {
-    for (short, long) in PHRASES {
-        if line == short {
-            return long;
-        }
-    }
-    line
-}
+answers SETUP and PLAY
+says RTSP/1.0 200 OK|CSeq: 1|Transport: RTP/AVP/TCP;unicast;interleaved=0-1;ssrc=01020304|\
+Session: 0123456789abcdef||
+says RTSP/1.0 200 OK|CSeq: 2|Session: 0123456789abcdef|Range: npt=0.000-0.080|\
+RTP-Info: url=rtsp://h/b.mpg/video;seq=1;rtptime=0|x-Start: 1||
 
-/// A script with all its lines in full, each with its end.
-fn in_full(alloc: Global, script: &'static str) -> Result<String, NoMemory> {
-    let mut text = String::new(alloc);
-    for line in script.lines() {
-        text.push_str(phrase_of(line))?;
-        text.push('\n')?;
-    }
-    Ok(text)
-}
+sends the report
+sends 24010030 80c80006 01020304 00000000 00000000 00000000 00000000 00000000 \
+81ca0004 01020304 0108766f 64736572 76650000
+
+sends the first picture
+sends 24000032 80a00001 00000000 01020304 00003900 000001b316012013ffffe0a0 \
+000001b800080040 00000100000ffff8 000001011234
+
+sends the second picture
+sends 2400001f 80a00002 00000e10 01020304 00011a01 000001000057fff880 000001011234";
 
 /// Serves the scenes of a script.
-fn serve_script<R: Wait + Abort>(
-    rt: &R,
-    alloc: Global,
-    script: &'static str,
-) -> Result<(), NoMemory> {
+fn serve_script<R: Wait + Abort>(rt: &R, alloc: Global, script: &str) -> Result<(), NoMemory> {
     let films = server_films(rt, alloc)?;
-    let text = in_full(alloc, script)?;
-    serve_all(rt, alloc, &films, text.trim_end())
+    let text = in_full(alloc, PHRASES, script)?;
+    serve_all(rt, alloc, &films, &text)
 }
 
 /// Plays of the film of two pictures.
@@ -353,79 +321,69 @@ const _: () = prove!(size_of::<PlayNote>() == 128);
 
 const _: () = prove!(size_of::<Segment>() == 16);
 
-/// The last slot before each send, from the first: two replies, a send in slot 1, two in
-/// slot 2, four in slot 5, a reply.
-const SENDS: [u64; 10] = [0, 0, 1, 2, 2, 5, 5, 5, 5, 5];
+/// The numbers of a send and an event that fail, the last slot before it, and the end. Before the
+/// sends, from the first, these slots have come: two replies, a send in slot 1, two in slot 2, four
+/// in slot 5, a reply.
+const FAILURES: &str = "\
+1 0 0|LinkFault 0
+2 0 0|LinkFault 0
+3 0 1|LinkFault 0
+4 0 2|LinkFault 0
+5 0 2|LinkFault 0
+6 0 5|LinkFault 2
+7 0 5|LinkFault 2
+8 0 5|LinkFault 2
+9 0 5|LinkFault 2
+10 0 5|LinkFault 2
+11 0 5|TornDown 2
+0 1 0|LinkFault 0
+0 2 0|LinkFault 0
+0 3 1|LinkFault 0
+0 4 2|LinkFault 0
+0 5 5|LinkFault 2
+0 6 5|TornDown 2";
 
-/// The last slot before each event.
-const NEXTS: [u64; 5] = [0, 0, 1, 2, 5];
+/// Whether a journal has one halt after each admission, and its calendar nothing after a slot.
+fn is_halted(journal: &str, last: u64) -> bool {
+    let Some((entries, booked)) = journal.split_once("calendar from=0\n") else {
+        return false;
+    };
+    let mut halted = 0usize;
+    for line in entries.lines() {
+        if line.ends_with(" halted") {
+            halted = halted.saturating_add(2);
+        }
+    }
+    for line in booked.lines() {
+        // at SLOT booked=BYTES
+        if last < numbers_of(line)[1] {
+            return false;
+        }
+    }
+    halted == entries.lines().count()
+}
 
-/// Serves a connection whose send or event of that number fails, after that slot, or in which
-/// none fails.
+/// Serves a connection of which a call fails, or none.
 fn fail_at<R: Wait + Abort>(
     rt: &R,
     alloc: Global,
     films: &[Stored],
-    failing: Failing<'_>,
-    heard: Option<u64>,
+    row: &str,
 ) -> Result<(), NoMemory>
     requires { AreFilms films.now }
 {
-    let mut visit = Visit::new(alloc);
-    for line in FAILS.lines() {
-        visit.push(rt, alloc, line)?;
-    }
-    let (station, mut seat) = station_of(rt, alloc, 50_000, 1_024)?;
-    visit.serve(rt, alloc, &station, &mut seat, films, failing)?;
-    let end = match heard {
-        Some(_) => ConnEnd::LinkFault,
-        None => ConnEnd::TornDown,
-    };
-    expect(rt, visit.end == end, "another end");
-    let book = station.close(seat);
-    check_book(rt, &book, heard.unwrap_or(5));
-    // Taken apart here, so that no book is dropped.
-    let _entries = book.into_entries();
+    let (failing, end) = row.split_once('|').unwrap_or((row, ""));
+    let lines = format!(in alloc; "{FAILS}\nserve {failing}\nany\nends {end}")?;
+    let journal = journal_after(rt, alloc, films, "50000 1024", &lines)?;
+    let [_, _, last, _] = numbers_of(failing);
+    expect(rt, is_halted(&journal, last), row);
     Ok(())
-}
-
-/// One halt for each admission, and nothing booked after a slot.
-fn check_book<R: Abort>(rt: &R, book: &Book, heard: u64) {
-    let mut halted = 0usize;
-    for entry in book.entries() {
-        if entry.answer == Answer::Halted {
-            halted = halted.saturating_add(2);
-        }
-    }
-    expect(
-        rt,
-        halted == book.entries().len(),
-        "a play without its halt",
-    );
-    expect(rt, book.calendar().now() == 0, "a slot has come");
-    for slot in 0..20 {
-        let is_free = slot <= heard || book.calendar().booked(slot) == 0;
-        expect(rt, is_free, "a slot is booked after the end");
-    }
 }
 
 fn fail_everywhere<R: Wait + Abort>(rt: &R, alloc: Global) -> Result<(), NoMemory> {
     let films = server_films(rt, alloc)?;
-    for number in 1..=11 {
-        let failing = Failing {
-            sends: &[number],
-            nexts: &[],
-        };
-        let heard = SENDS.get(number as usize - 1).copied();
-        fail_at(rt, alloc, &films, failing, heard)?;
-    }
-    for number in 1..=6 {
-        let failing = Failing {
-            sends: &[],
-            nexts: &[number],
-        };
-        let heard = NEXTS.get(number as usize - 1).copied();
-        fail_at(rt, alloc, &films, failing, heard)?;
+    for row in FAILURES.lines() {
+        fail_at(rt, alloc, &films, row)?;
     }
     Ok(())
 }

@@ -1,6 +1,6 @@
 //! The films of the tests.
 
-ghost use Rattle.std.specs.Prelude.{◌≡◌, IfOk, string_bytes, true};
+ghost use Rattle.std.specs.Prelude.{◌≡◌, [], ◌∷◌, IfOk, string_bytes, true};
 ghost use Rattle.film_streams.specs.SettingRanges.{AreFilms};
 
 use crate::script_text::bytes_of;
@@ -24,21 +24,34 @@ fn stored(alloc: Global, name: &str, bytes: Vec<u8>) -> Result<Stored, NoMemory>
     Stored::new(alloc, String::from_str(alloc, name)?, film)
 }
 
-/// The film of two pictures, `b.mpg`.
-pub(crate) fn short_film(rt: &impl Abort, alloc: Global) -> Result<Stored, NoMemory> {
-    stored(alloc, "b.mpg", bytes_of(rt, alloc, FILM_B)?)
+/// Stops the test, unless this is the one film of a server.
+#[tactic(auto, using(crate::proofs::ServerFilmLemmas::one_film))]
+fn expect_one(rt: &impl Abort, films: &[Stored])
+    ensures { AreFilms films.now }
+{
+    let [film] = films else {
+        panic!(rt; "another number of films");
+    };
+    assert!(rt; good_name(film.name.as_bytes()));
 }
 
-/// The server's films: `b.mpg` of two pictures, and `news.mpg` of 250, 10 seconds.
+/// Stops the test, unless these are the two films of a server.
 #[tactic(auto, using(crate::proofs::ServerFilmLemmas::two_films))]
-pub(crate) fn server_films(rt: &impl Abort, alloc: Global) -> Result<Vec<Stored>, NoMemory>
-    ensures { IfOk result (λ films. AreFilms films.items) }
+fn expect_two(rt: &impl Abort, short: &Stored, long: &Stored)
+    ensures { AreFilms (short.now ∷ long.now ∷ []) }
 {
-    let short = short_film(rt, alloc)?;
-    let long = stored(alloc, "news.mpg", make_film(alloc, 1, 250)?)?;
     assert!(rt; good_name(short.name.as_bytes()));
     assert!(rt; good_name(long.name.as_bytes()));
     assert!(rt; short.name.len() < long.name.len());
+}
+
+/// The server's films: `b.mpg` of two pictures, and `news.mpg` of 250, 10 seconds.
+pub(crate) fn server_films(rt: &impl Abort, alloc: Global) -> Result<Vec<Stored>, NoMemory>
+    ensures { IfOk result (λ films. AreFilms films.items) }
+{
+    let short = stored(alloc, "b.mpg", bytes_of(rt, alloc, FILM_B)?)?;
+    let long = stored(alloc, "news.mpg", make_film(alloc, 1, 250)?)?;
+    expect_two(rt, &short, &long);
     let mut films = Vec::new(alloc);
     films.push(short)?;
     films.push(long)?;
@@ -46,7 +59,6 @@ pub(crate) fn server_films(rt: &impl Abort, alloc: Global) -> Result<Vec<Stored>
 }
 
 /// A server's film of so many pictures, 1 to 100,000: `film.mpg`.
-#[tactic(auto, using(crate::proofs::ServerFilmLemmas::one_film))]
 pub(crate) fn film_of<R: Abort>(
     rt: &R,
     alloc: Global,
@@ -55,9 +67,8 @@ pub(crate) fn film_of<R: Abort>(
     ensures { IfOk result (λ films. AreFilms films.items) }
 {
     assert!(rt; 1 <= pictures && pictures <= 100_000);
-    let film = stored(alloc, "film.mpg", make_film(alloc, 1, pictures)?)?;
-    assert!(rt; good_name(film.name.as_bytes()));
     let mut films = Vec::new(alloc);
-    films.push(film)?;
+    films.push(stored(alloc, "film.mpg", make_film(alloc, 1, pictures)?)?)?;
+    expect_one(rt, &films);
     Ok(films)
 }

@@ -19,6 +19,30 @@ pub(crate) fn word_and_rest(line: &str) -> (&str, &str) {
     line.split_once(' ').unwrap_or((line, ""))
 }
 
+/// Returns the lines that an abbreviation means, or the line itself. Empty lines part the
+/// abbreviations, each of which stands before its lines.
+fn phrase_of<'a>(phrases: &'a str, line: &'a str) -> &'a str {
+    for phrase in phrases.split("\n\n") {
+        let (short, long) = phrase.split_once('\n').unwrap_or((phrase, ""));
+        if line == short {
+            return long;
+        }
+    }
+    line
+}
+
+/// A script with all its lines in full, without the end of the last.
+pub(crate) fn in_full(alloc: Global, phrases: &str, script: &str) -> Result<String, NoMemory> {
+    let mut text = String::new(alloc);
+    for line in script.lines() {
+        if !text.is_empty() {
+            text.push('\n')?;
+        }
+        text.push_str(phrase_of(phrases, line))?;
+    }
+    Ok(text)
+}
+
 /// A message, in which `|` means CR LF.
 fn message_of(alloc: Global, text: &str) -> Result<Vec<u8>, NoMemory> {
     let mut bytes = Vec::new(alloc);
@@ -44,8 +68,8 @@ pub(crate) fn bytes_of<R: Abort>(rt: &R, alloc: Global, digits: &str) -> Result<
     Ok(bytes)
 }
 
-/// The bytes of a line that begins with this word: a message after `hears` and `says`, and
-/// hexadecimal digits after another word.
+/// The bytes of a line that begins with this word: a message after `hears` and `says`, so many
+/// times the same byte after `fill`, and hexadecimal digits after `gets` and `sends`.
 pub(crate) fn payload_of<R: Abort>(
     rt: &R,
     alloc: Global,
@@ -53,10 +77,13 @@ pub(crate) fn payload_of<R: Abort>(
     rest: &str,
 ) -> Result<Vec<u8>, NoMemory> {
     if word == "hears" || word == "says" {
-        message_of(alloc, rest)
-    } else {
-        bytes_of(rt, alloc, rest)
+        return message_of(alloc, rest);
     }
+    if word == "fill" {
+        return Ok(vec![in alloc; b'x'; numbers_of(rest)[0] as usize]?);
+    }
+    expect(rt, word == "gets" || word == "sends", word);
+    bytes_of(rt, alloc, rest)
 }
 
 /// The first numbers of a line, and 0 for those that are missing.
@@ -94,20 +121,4 @@ fn block_at(sent: &[u8]) -> Option<(u8, &[u8])> {
     };
     let length = usize::from(*high) * 256 + usize::from(*low);
     Some((*channel, after.get(..length)?))
-}
-
-/// Compares what was sent next, which must begin so.
-pub(crate) fn compare_front<R: Abort>(
-    rt: &R,
-    alloc: Global,
-    sent: &[u8],
-    want: &[u8],
-) -> Result<(), NoMemory> {
-    assert!(rt;
-        sent.starts_with(want),
-        "wanted {} and got {}",
-        String::from_utf8_lossy(alloc, want)?,
-        String::from_utf8_lossy(alloc, sent)?
-    );
-    Ok(())
 }

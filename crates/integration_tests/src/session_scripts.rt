@@ -7,7 +7,7 @@ ghost use Rattle.session.specs.SessionStates.{AsksFor, AwaitsNoAnswer, IsHalt, I
 ghost use Rattle.session.specs.SessionStates.{IsPlay, awaited_answer, open_of};
 
 use crate::films::server_films;
-use crate::script_text::{compare_front, expect, numbers_of, payload_of, word_and_rest};
+use crate::script_text::{expect, in_full, numbers_of, payload_of, word_and_rest};
 use early_start::Offers;
 use film_frames::Stored;
 use interleave::{Demux, Step};
@@ -28,6 +28,28 @@ pub(crate) const SETTINGS: Settings = Settings {
     buffer: 1_048_576,
     startup: 25,
 };
+
+/// What is before a scene, by its session's state: `b.mpg` is set up, and played from slot 1 on.
+const STATES: &str = "\
+in Init
+#
+
+in Ready
+hears SETUP rtsp://h/b.mpg RTSP/1.0|CSeq: 1|Transport: RTP/AVP/TCP;unicast;interleaved=0-1|\
+x-Startup: 2||
+says RTSP/1.0 200 OK|CSeq: 1|Transport: RTP/AVP/TCP;unicast;interleaved=0-1;ssrc=01020304|\
+Session: 0123456789abcdef||
+
+in Playing
+hears SETUP rtsp://h/b.mpg RTSP/1.0|CSeq: 1|Transport: RTP/AVP/TCP;unicast;interleaved=0-1|\
+x-Startup: 2||
+says RTSP/1.0 200 OK|CSeq: 1|Transport: RTP/AVP/TCP;unicast;interleaved=0-1;ssrc=01020304|\
+Session: 0123456789abcdef||
+told admitted 0 1 4 141
+hears PLAY rtsp://h/b.mpg RTSP/1.0|CSeq: 2|Session: 0123456789abcdef||
+says RTSP/1.0 200 OK|CSeq: 2|Session: 0123456789abcdef|Range: npt=0.000-0.080|\
+RTP-Info: url=rtsp://h/b.mpg/video;seq=1;rtptime=0|x-Start: 1||
+told nothing";
 
 /// The capacity of the link that offers are found for: a byte less than the first slot of `b.mpg`
 /// takes.
@@ -53,9 +75,16 @@ struct Told<'s> {
 struct Talk<'a> {
     session: Session<'a>,
     link: MemoryLink,
-    calendar: Calendar,
-    shared: Calendar,
     read: usize,
+}
+
+/// What the words of an answer mean.
+fn told_of(text: &str) -> Told<'_> {
+    let (kind, numbers) = word_and_rest(text);
+    Told {
+        kind,
+        numbers: numbers_of(numbers),
+    }
 }
 
 /// Whether a message is one complete request.
@@ -73,6 +102,105 @@ fn is_request(alloc: Global, message: &[u8]) -> Result<bool, NoMemory>
     }
 }
 
+fn play<R: Abort>(rt: &R, session: &mut Session<'_>, plan: &Plan, told: Told<'_>)
+    requires { IsPlay (awaited_answer session.old) }
+    ensures { AwaitsNoAnswer session.new }
+{
+    let [first, second, third, fourth] = told.numbers;
+    if told.kind == "overflow" {
+        session.overflowed(first, second, third, fourth);
+    } else if told.kind == "full" {
+        session.full(first, second);
+    } else {
+        let is_plan = third == 0 || plan.slots() == third && plan.bytes() == fourth;
+        expect(
+            rt,
+            told.kind == "admitted" && is_plan,
+            "another play was asked for",
+        );
+        assert!(rt; session.heard_slot() < second);
+        session.admitted(first, second);
+    }
+}
+
+fn halt<R: Abort>(rt: &R, session: &mut Session<'_>, keep: u64, told: Told<'_>)
+    requires { IsHalt (awaited_answer session.old) (open_of session.old) }
+    ensures { AwaitsNoAnswer session.new }
+{
+    let [place, kept, _, _] = told.numbers;
+    let is_halt = told.kind == "halted" && keep == kept;
+    expect(rt, is_halt, "another halt was asked for");
+    session.halted(place);
+}
+
+fn look<R: Abort>(rt: &R, session: &mut Session<'_>, told: Told<'_>)
+    requires { IsLook (awaited_answer session.old) }
+    ensures { AwaitsNoAnswer session.new }
+{
+    let [first, second, third, fourth] = told.numbers;
+    if told.kind == "looked" {
+        session.looked(first, second, third, fourth);
+    } else {
+        expect(rt, told.kind == "full", "a look was asked for");
+        session.full(first, second);
+    }
+}
+
+/// Books a play by this plan for another client.
+fn share<R: Abort>(rt: &R, calendar: &mut Calendar, plan: &Plan, start: u64) {
+    let now = calendar.now();
+    assert!(rt; now < start && start <= 1 << 20 && plan.slots() <= 1 << 20);
+    assert!(rt; start + plan.slots() <= now + RING_SLOTS);
+    assert!(rt; calendar.first_overflow(start, plan).is_none());
+    calendar.book(start, plan);
+}
+
+/// Finds the starts that are offered.
+fn find_starts<R: Abort>(
+    rt: &R,
+    alloc: Global,
+    offers: &mut Offers,
+    plan: &Plan,
+    told: Told<'_>,
+) -> Result<(), NoMemory> {
+    let [_, first, _, _] = told.numbers;
+    let is_beside = told.kind == "beside";
+    let capacity = if is_beside { SHARED } else { OFFERED };
+    let mut calendar = Calendar::new(alloc, Profile::flat(alloc, capacity)?)?;
+    if is_beside {
+        share(rt, &mut calendar, plan, first);
+    }
+    assert!(rt; calendar.now() < first && first <= 1 << 62);
+    offers.find(&calendar, plan, first);
+    Ok(())
+}
+
+fn answer<R: Abort>(
+    rt: &R,
+    alloc: Global,
+    session: &mut Session<'_>,
+    ask: Ask,
+    told: Told<'_>,
+) -> Result<(), NoMemory>
+    requires { AsksFor ask session.old }
+    ensures { IfOk result (λ _. AwaitsNoAnswer session.new) }
+{
+    match ask {
+        Ask::Reply => {}
+        Ask::Play(plan) => play(rt, session, &plan, told),
+        Ask::Halt(keep) => halt(rt, session, keep, told),
+        Ask::Look(_) => look(rt, session, told),
+        Ask::Offer(plan, mut offers) => {
+            let [seen, first, _, _] = told.numbers;
+            let is_offer = told.kind == "offered" || told.kind == "beside";
+            expect(rt, is_offer, "an offer was asked for");
+            find_starts(rt, alloc, &mut offers, &plan, told)?;
+            session.offered(seen, first, plan, offers);
+        }
+    }
+    Ok(())
+}
+
 impl<'a> Talk<'a> {
     fn new(alloc: Global, films: &'a [Stored]) -> Result<Talk<'a>, NoMemory>
         requires { AreFilms films.now }
@@ -80,14 +208,10 @@ impl<'a> Talk<'a> {
     {
         let events = Vec::new(alloc);
         let link = MemoryLink::new(alloc, events, 1 << 20, Vec::new(alloc), Vec::new(alloc))?;
-        let calendar = Calendar::new(alloc, Profile::flat(alloc, OFFERED)?)?;
-        let shared = Calendar::new(alloc, Profile::flat(alloc, SHARED)?)?;
         let session = Session::new(alloc, films, SETTINGS, WORDS)?;
         Ok(Talk {
             session,
             link,
-            calendar,
-            shared,
             read: 0,
         })
     }
@@ -95,91 +219,6 @@ impl<'a> Talk<'a> {
     /// What was sent and not read yet.
     fn unread(&self) -> &[u8] {
         self.link.sent().get(self.read..).unwrap_or(&[])
-    }
-
-    fn play<R: Abort>(&mut self, rt: &R, plan: &Plan, told: Told<'_>)
-        requires { IsPlay (awaited_answer self.old.session) }
-        ensures { AwaitsNoAnswer self.new.session }
-    {
-        let [first, second, third, fourth] = told.numbers;
-        if told.kind == "admitted" {
-            let is_plan = plan.slots() == third && plan.bytes() == fourth;
-            expect(rt, third == 0 || is_plan, "another plan");
-            assert!(rt; self.session.heard_slot() < second);
-            self.session.admitted(first, second);
-        } else if told.kind == "overflow" {
-            self.session.overflowed(first, second, third, fourth);
-        } else {
-            expect(rt, told.kind == "full", "a play was asked for");
-            self.session.full(first, second);
-        }
-    }
-
-    fn halt<R: Abort>(&mut self, rt: &R, keep: u64, told: Told<'_>)
-        requires { IsHalt (awaited_answer self.old.session) (open_of self.old.session) }
-        ensures { AwaitsNoAnswer self.new.session }
-    {
-        let [place, kept, _, _] = told.numbers;
-        expect(
-            rt,
-            told.kind == "halted" && keep == kept,
-            "another halt was asked for",
-        );
-        self.session.halted(place);
-    }
-
-    fn look<R: Abort>(&mut self, rt: &R, told: Told<'_>)
-        requires { IsLook (awaited_answer self.old.session) }
-        ensures { AwaitsNoAnswer self.new.session }
-    {
-        let [first, second, third, fourth] = told.numbers;
-        if told.kind == "looked" {
-            self.session.looked(first, second, third, fourth);
-        } else {
-            expect(rt, told.kind == "full", "a look was asked for");
-            self.session.full(first, second);
-        }
-    }
-
-    fn offer<R: Abort>(&mut self, rt: &R, plan: Plan, mut offers: Offers, told: Told<'_>)
-        requires { IsOffer (awaited_answer self.old.session) }
-        ensures { AwaitsNoAnswer self.new.session }
-    {
-        let [seen, first, _, _] = told.numbers;
-        if told.kind == "beside" {
-            self.share(rt, &plan, first);
-            assert!(rt; self.shared.now() < first && first <= 1 << 62);
-            offers.find(&self.shared, &plan, first);
-        } else {
-            assert!(rt; told.kind == "offered", "an offer was asked for");
-            assert!(rt; self.calendar.now() < first && first <= 1 << 62);
-            offers.find(&self.calendar, &plan, first);
-        }
-        self.session.offered(seen, first, plan, offers);
-    }
-
-    /// Books a play by this plan for another client.
-    fn share<R: Abort>(&mut self, rt: &R, plan: &Plan, start: u64)
-        ensures { self.new.session ≡ self.old.session }
-    {
-        let now = self.shared.now();
-        assert!(rt; now < start && start <= 1 << 20 && plan.slots() <= 1 << 20);
-        assert!(rt; start + plan.slots() <= now + RING_SLOTS);
-        assert!(rt; self.shared.first_overflow(start, plan).is_none());
-        self.shared.book(start, plan);
-    }
-
-    fn answer<R: Abort>(&mut self, rt: &R, ask: Ask, told: Told<'_>)
-        requires { AsksFor ask self.old.session }
-        ensures { AwaitsNoAnswer self.new.session }
-    {
-        match ask {
-            Ask::Reply => {}
-            Ask::Play(plan) => self.play(rt, &plan, told),
-            Ask::Halt(keep) => self.halt(rt, keep, told),
-            Ask::Look(_) => self.look(rt, told),
-            Ask::Offer(plan, offers) => self.offer(rt, plan, offers, told),
-        }
     }
 
     fn hear_once<R: Abort>(
@@ -190,17 +229,15 @@ impl<'a> Talk<'a> {
         told: Told<'_>,
     ) -> Result<(), NoMemory>
         requires { AwaitsNoAnswer self.old.session }
-        ensures { AwaitsNoAnswer self.new.session }
+        ensures { IfOk result (λ _. AwaitsNoAnswer self.new.session) }
     {
         let whole = is_request(alloc, message)?;
-        assert!(rt; whole);
-        assert!(rt; !self.session.waits());
-        assert!(rt; !self.session.torn());
-        assert!(rt; !self.session.link_failed());
-        let ask = self.session.hear(message);
-        self.answer(rt, ask, told);
-        let replied = self.session.reply(&mut self.link);
-        assert!(rt; replied.is_ok());
+        let session = &mut self.session;
+        assert!(rt; whole && !session.waits() && !session.torn() && !session.link_failed());
+        let ask = session.hear(message);
+        answer(rt, alloc, session, ask, told)?;
+        let replied = session.reply(&mut self.link);
+        expect(rt, replied.is_ok(), "the link failed");
         Ok(())
     }
 
@@ -214,13 +251,8 @@ impl<'a> Talk<'a> {
         told: Told<'_>,
     ) -> Result<(), NoMemory>
         requires { AwaitsNoAnswer self.old.session }
-        ensures { AwaitsNoAnswer self.new.session }
+        ensures { IfOk result (λ _. AwaitsNoAnswer self.new.session) }
     {
-        expect(
-            rt,
-            self.unread().is_empty(),
-            "bytes are unread before a request",
-        );
         self.hear_once(rt, alloc, message, told)?;
         if self.unread().starts_with(b"RTSP/1.0 500 ") {
             self.read = self.link.sent().len();
@@ -233,50 +265,14 @@ impl<'a> Talk<'a> {
         requires { AwaitsNoAnswer self.old.session }
         ensures { AwaitsNoAnswer self.new.session }
     {
-        expect(
-            rt,
-            self.unread().is_empty(),
-            "bytes are unread before a slot",
-        );
         match self.session.slot(slot, &mut self.link) {
             Ok(Slotted::Going) => {}
-            Ok(Slotted::Finished(keep)) => self.halt(rt, keep, told),
+            Ok(Slotted::Finished(keep)) => halt(rt, &mut self.session, keep, told),
             Err(_) => expect(rt, false, "the link failed"),
         }
     }
 
-    /// Reads what was sent next, which must be this.
-    fn read<R: Abort>(&mut self, rt: &R, alloc: Global, want: &[u8]) -> Result<(), NoMemory>
-        ensures { self.new.session ≡ self.old.session }
-    {
-        compare_front(rt, alloc, self.unread(), want)?;
-        self.read = self.read.saturating_add(want.len());
-        Ok(())
-    }
-
-    /// Sets a session up for `b.mpg` and plays it, as far as a state needs it, and passes over the
-    /// replies.
-    fn reach<R: Abort>(&mut self, rt: &R, alloc: Global, state: &str) -> Result<(), NoMemory>
-        requires { AwaitsNoAnswer self.old.session }
-        ensures { AwaitsNoAnswer self.new.session }
-    {
-        if state == "Init" {
-            return Ok(());
-        }
-        let told = Told {
-            kind: "admitted",
-            numbers: [0, 1, 4, 141],
-        };
-        self.hear(rt, alloc, SETUP, told)?;
-        self.read = self.link.sent().len();
-        if state == "Playing" {
-            self.hear(rt, alloc, PLAY, told)?;
-            self.read = self.link.sent().len();
-        }
-        Ok(())
-    }
-
-    /// Processes a script's line.
+    /// Processes a script's line. What is sent must be read before a request or a slot comes.
     fn take<R: Abort>(
         &mut self,
         rt: &R,
@@ -285,61 +281,56 @@ impl<'a> Talk<'a> {
         told: Told<'_>,
     ) -> Result<(), NoMemory>
         requires { AwaitsNoAnswer self.old.session }
-        ensures { AwaitsNoAnswer self.new.session }
+        ensures { IfOk result (λ _. AwaitsNoAnswer self.new.session) }
     {
         let (word, rest) = word_and_rest(line);
-        if word == "in" {
-            return self.reach(rt, alloc, rest);
-        }
+        let reads = word == "says" || word == "sends";
+        expect(rt, reads || self.unread().is_empty(), line);
         if word == "slot" {
             self.slot(rt, numbers_of(rest)[0], told);
             return Ok(());
         }
         let bytes = payload_of(rt, alloc, word, rest)?;
-        if word == "hears" {
-            self.hear(rt, alloc, &bytes, told)
-        } else {
-            expect(rt, word == "says" || word == "sends", line);
-            self.read(rt, alloc, &bytes)
+        if reads {
+            expect(rt, self.unread().starts_with(&bytes), line);
+            self.read = self.read.saturating_add(bytes.len());
+            return Ok(());
         }
+        self.hear(rt, alloc, &bytes, told)
+    }
+
+    /// Processes a scene's lines.
+    fn run<R: Abort>(&mut self, rt: &R, alloc: Global, scene: &str) -> Result<(), NoMemory>
+        requires { AwaitsNoAnswer self.old.session }
+    {
+        let mut told = told_of("nothing");
+        for line in scene.lines() {
+            let (word, rest) = word_and_rest(line);
+            if word == "told" {
+                told = told_of(rest);
+            } else if word != "#" && !word.is_empty() {
+                self.take(rt, alloc, line, told)?;
+            }
+        }
+        expect(rt, self.unread().is_empty(), scene);
+        Ok(())
     }
 }
 
-const SETUP: &[u8] = b"SETUP rtsp://h/b.mpg RTSP/1.0\r\nCSeq: 1\r\n\
-    Transport: RTP/AVP/TCP;unicast;interleaved=0-1\r\nx-Startup: 2\r\n\r\n";
-
-const PLAY: &[u8] = b"PLAY rtsp://h/b.mpg RTSP/1.0\r\nCSeq: 2\r\nSession: 0123456789abcdef\r\n\r\n";
-
-/// Talks to one session: `in STATE`, `told ANSWER` of the next request or slot, `hears REQUEST`,
-/// `slot NUMBER`, `says REPLY`, `sends BYTES`. All that it sends must be read.
+/// Talks to one session: `told ANSWER` of the next request or slot, `hears REQUEST`, `slot NUMBER`,
+/// `says REPLY`, `sends BYTES`. All that it sends must be read.
 fn run_scene<R: Abort>(rt: &R, alloc: Global, films: &[Stored], scene: &str) -> Result<(), NoMemory>
     requires { AreFilms films.now }
 {
     let mut talk = Talk::new(alloc, films)?;
-    let mut told = Told {
-        kind: "nothing",
-        numbers: [0; 4],
-    };
-    for line in scene.lines() {
-        let (word, rest) = word_and_rest(line);
-        if word == "told" {
-            let (kind, numbers) = word_and_rest(rest);
-            told = Told {
-                kind,
-                numbers: numbers_of(numbers),
-            };
-        } else if word != "#" && !word.is_empty() {
-            talk.take(rt, alloc, line, told)?;
-        }
-    }
-    expect(rt, talk.unread().is_empty(), scene);
-    Ok(())
+    talk.run(rt, alloc, scene)
 }
 
-/// Talks to a session of each scene; empty lines part them.
+/// Talks to a session of each scene, which begins with `in STATE`; empty lines part them.
 pub(crate) fn talk_all<R: Abort>(rt: &R, alloc: Global, script: &str) -> Result<(), NoMemory> {
     let films = server_films(rt, alloc)?;
-    for scene in script.split("\n\n") {
+    let text = in_full(alloc, STATES, script)?;
+    for scene in text.split("\n\n") {
         run_scene(rt, alloc, &films, scene)?;
     }
     Ok(())

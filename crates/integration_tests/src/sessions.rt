@@ -391,13 +391,17 @@ Streaming Media v2022.12.01)|\
 Session: 0123456789abcdef||
 says RTSP/1.0 200 OK|CSeq: 7|Session: 0123456789abcdef||";
 
+static SCRIPTS: [&str; 5] = [METHODS, ORDINARY, REFUSALS, PLAYERS, PLAYS];
+
+// The proof of the test sees the scripts through this call, which says nothing of them: so it
+// doesn't carry the texts.
+fn scripts() -> &'static [&'static str] {
+    &SCRIPTS
+}
+
 #[test]
 fn talks_to_sessions(rt: HostRuntime) -> Result<(), Fail> {
-    passes(
-        &rt,
-        rt.alloc(),
-        &[METHODS, ORDINARY, REFUSALS, PLAYERS, PLAYS],
-    )
+    passes(&rt, rt.alloc(), scripts())
 }
 
 #[test]

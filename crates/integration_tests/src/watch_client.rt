@@ -5,7 +5,7 @@ ghost use Rattle.std.specs.Prelude.{◌≤◌};
 ghost use Rattle.film_streams.specs.SettingRanges.{AreFilms};
 
 use crate::films::film_of;
-use crate::link_scripts::{Failing, Visit, station_of};
+use crate::link_scripts::{serve, station_of};
 use crate::script_text::expect;
 use crate::session_scripts::SETTINGS;
 use film_frames::Stored;
@@ -36,27 +36,17 @@ fn sent_after<R: Wait + Abort>(
 ) -> Result<Vec<u8>, NoMemory>
     requires { AreFilms films.now }
 {
+    let events = server_events(alloc, requests, slots)?;
     let (station, mut seat) = station_of(rt, alloc, 1 << 20, 16)?;
-    let mut visit = Visit::new(alloc);
-    push_server_events(alloc, &mut visit.events, requests, slots)?;
-    let none = Failing {
-        sends: &[],
-        nexts: &[],
-    };
-    visit.serve(rt, alloc, &station, &mut seat, films, none)?;
+    let served = serve(rt, alloc, &station, &mut seat, films, events, "")?;
     // Taken apart here, so that no book is dropped.
     let _entries = station.close(seat).into_entries();
-    let Visit { sent, .. } = visit;
-    Ok(sent)
+    Ok(Vec::from_slice(alloc, served.link.sent())?)
 }
 
-/// Adds what the server receives: requests, and slots from 1 on after the second.
-fn push_server_events(
-    alloc: Global,
-    events: &mut Vec<Event>,
-    requests: &[&str],
-    slots: u64,
-) -> Result<(), NoMemory> {
+/// What the server receives: requests, and slots from 1 on after the second.
+fn server_events(alloc: Global, requests: &[&str], slots: u64) -> Result<Vec<Event>, NoMemory> {
+    let mut events = Vec::new(alloc);
     for (number, request) in requests.iter().enumerate() {
         events.push(Event::Bytes(Vec::from_slice(alloc, request.as_bytes())?))?;
         if number == 1 {
@@ -65,21 +55,28 @@ fn push_server_events(
             }
         }
     }
-    Ok(())
+    Ok(events)
 }
 
-/// Adds the bytes after a prefix as an event, if there are any.
-fn push_after(
+/// Adds what the server sends in addition to a prefix, if it does, after these requests and with so
+/// many slots. Returns the length of all that it sends.
+fn push_sent<R: Wait + Abort>(
+    rt: &R,
     alloc: Global,
     events: &mut Vec<Event>,
-    sent: &[u8],
+    films: &[Stored],
+    requests: &[&str],
+    slots: u64,
     front: usize,
-) -> Result<(), NoMemory> {
+) -> Result<usize, NoMemory>
+    requires { AreFilms films.now }
+{
+    let sent = sent_after(rt, alloc, films, requests, slots)?;
     let after = sent.get(front..).unwrap_or(&[]);
     if !after.is_empty() {
         events.push(Event::Bytes(Vec::from_slice(alloc, after)?))?;
     }
-    Ok(())
+    Ok(sent.len())
 }
 
 /// What the client receives: the server's replies to the first two requests; in each of so many
@@ -88,25 +85,23 @@ fn client_events<R: Wait + Abort>(
     rt: &R,
     alloc: Global,
     films: &[Stored],
-    requests: [&str; 3],
+    requests: &[&str],
     slots: u64,
 ) -> Result<Vec<Event>, NoMemory>
     requires few { slots ≤ 1000 }
     requires films { AreFilms films.now }
 {
+    let (first, _) = requests.split_at(requests.len().min(2));
     let mut events = Vec::new(alloc);
     let mut came = 0;
     events.push(Event::Slot(BEFORE))?;
     for slot in 0..=slots {
-        let sent = sent_after(rt, alloc, films, &requests[..2], slot)?;
-        push_after(alloc, &mut events, &sent, came)?;
-        came = sent.len();
+        came = push_sent(rt, alloc, &mut events, films, first, slot, came)?;
         if 0 < slot {
             events.push(Event::Slot(BEFORE + slot))?;
         }
     }
-    let sent = sent_after(rt, alloc, films, &requests, slots)?;
-    push_after(alloc, &mut events, &sent, came)?;
+    push_sent(rt, alloc, &mut events, films, requests, slots, came)?;
     Ok(events)
 }
 
@@ -131,35 +126,8 @@ fn wish_for(alloc: Global, buffer: u64, delay: u64) -> Result<Wish, NoMemory> {
     })
 }
 
-/// A film that was watched: the link that it came over, what was handed on, and what the meter of
-/// the buffer read.
-#[derive(Drop)]
-struct Watching {
-    link: MemoryLink,
-    out: MemorySink,
-    watched: Watched,
-}
-
-/// Watches the film over a link that carries these events.
-fn watch_over<R: Abort>(
-    rt: &R,
-    alloc: Global,
-    wish: &Wish,
-    events: Vec<Event>,
-) -> Result<Watching, NoMemory> {
-    assert!(rt; good_name(wish.name.as_bytes()) && 1 <= wish.port);
-    assert!(rt; 1 <= wish.buffer && wish.buffer <= 1 << 42 && wish.startup <= 10_000);
-    assert!(rt; 360 <= wish.slot_units && wish.slot_units <= 360_000);
-    let mut link = MemoryLink::new(alloc, events, 1 << 16, Vec::new(alloc), Vec::new(alloc))?;
-    let mut out = MemorySink::new(alloc, 1 << 20, Vec::new(alloc))?;
-    match watch(alloc, wish, &mut link, &mut out) {
-        WatchEnd::Done(watched) => Ok(Watching { link, out, watched }),
-        _ => Err(NoMemory),
-    }
-}
-
 /// Whether bytes are these requests, one after another.
-fn are_requests(sent: &[u8], requests: [&str; 3]) -> bool {
+fn are_requests(sent: &[u8], requests: &[&str]) -> bool {
     let mut rest = sent;
     for request in requests {
         match rest.strip_prefix(request.as_bytes()) {
@@ -178,6 +146,39 @@ fn has_read(watched: Watched, pictures: u32, buffer: u64) -> bool {
         && watched.most <= buffer
 }
 
+/// Watches the film over a link that carries these events. Compares the requests that the client
+/// sends, what the meter of its buffer read, and the film.
+fn watch_over<R: Abort>(
+    rt: &R,
+    alloc: Global,
+    wish: &Wish,
+    events: Vec<Event>,
+    requests: &[&str],
+    films: &[Stored],
+    pictures: u32,
+) -> Result<(), NoMemory> {
+    let in_limits = wish.buffer <= 1 << 42 && wish.startup <= 10_000 && wish.slot_units <= 360_000;
+    let in_limits = in_limits && 1 <= wish.port && 1 <= wish.buffer && 360 <= wish.slot_units;
+    assert!(rt; in_limits && good_name(wish.name.as_bytes()));
+    let mut link = MemoryLink::new(alloc, events, 1 << 16, Vec::new(alloc), Vec::new(alloc))?;
+    let mut out = MemorySink::new(alloc, 1 << 20, Vec::new(alloc))?;
+    let WatchEnd::Done(watched) = watch(alloc, wish, &mut link, &mut out) else {
+        return Err(NoMemory);
+    };
+    expect(rt, are_requests(link.sent(), requests), "other requests");
+    let [film] = films else {
+        panic!(rt; "another number of films");
+    };
+    let has_read = has_read(watched, pictures, wish.buffer);
+    expect(rt, has_read, "the meter read something else");
+    expect(
+        rt,
+        out.bytes() == film.film.bytes.as_slice(),
+        "another film",
+    );
+    Ok(())
+}
+
 /// Watches the film of so many pictures over the link that carries it.
 fn watch_film<R: Wait + Abort>(
     rt: &R,
@@ -191,26 +192,9 @@ fn watch_film<R: Wait + Abort>(
     let requests = [setup.as_str(), PLAY, TEARDOWN];
     assert!(rt; pictures <= 100 && delay <= 100);
     let slots = u64::from(pictures) + delay + 1;
-    let events = client_events(rt, alloc, &films, requests, slots)?;
+    let events = client_events(rt, alloc, &films, &requests, slots)?;
     let wish = wish_for(alloc, buffer, delay)?;
-    let watching = watch_over(rt, alloc, &wish, events)?;
-    expect(
-        rt,
-        are_requests(watching.link.sent(), requests),
-        "other requests",
-    );
-    expect(
-        rt,
-        has_read(watching.watched, pictures, buffer),
-        "the meter read something else",
-    );
-    assert!(rt; films.len() == 1);
-    expect(
-        rt,
-        watching.out.bytes() == films[0].film.bytes.as_slice(),
-        "another film",
-    );
-    Ok(())
+    watch_over(rt, alloc, &wish, events, &requests, &films, pictures)
 }
 
 /// Films of so many pictures, over a buffer and with a start delay.
