@@ -7,7 +7,8 @@ use super::*;
 use crate::tests::sockets::{
     connect, ends_with_last_bytes, has_both_slots, listens_as_asked, serves_late_reader,
 };
-use crate::tests::test_gates::TestGate;
+use crate::tests::test_gates::{TestGate, TestListener};
+use listener_gate::ListenerGate;
 use std::alloc::Global;
 use std::io::{Read, Write};
 use std::net::{Net, Shutdown, TcpListener, TcpStream};
@@ -273,25 +274,44 @@ where
     ]
 }
 
-/// The same of the gates of this machine, and whether they are printed as they should be.
+/// The same of gates over these listeners, and whether the gates are printed as they should be.
+fn listeners_serve<R, L, D>(
+    rt: &R,
+    alloc: Global,
+    listener: L,
+    second: L,
+    dial: &mut D,
+) -> ([bool; 2], [Option<bool>; 8])
+where
+    R: Net<Stream = TcpStream> + Clock + Threads + Sync,
+    L: TestListener + Send,
+    L::Conn: fmt::Debug + Send,
+    D: TestGate + fmt::Debug + Drop,
+{
+    let mut gate = ListenerGate::new(listener);
+    let printed = "ListenerGate { listener: TcpPort { .. }, .. }";
+    let printed = [
+        is_printed(alloc, &gate, printed),
+        is_printed(alloc, dial, "DialGate { .. }"),
+    ];
+    let second = ListenerGate::new(second);
+    (
+        printed,
+        serves_and_dials(rt, alloc, &mut gate, second, dial),
+    )
+}
+
+/// The same of the gates of this machine.
 fn system_serves_and_dials<R>(rt: &R, alloc: Global) -> ([bool; 2], [Option<bool>; 8])
 where
     R: Net<Listener = TcpListener, Stream = TcpStream> + Clock + Threads + Sync,
 {
-    let mut gate = TcpGate::new(TcpPort::new(rt, alloc));
-    let second = TcpGate::new(TcpPort::new(rt, alloc));
-    let mut dial = DialGate::new(rt, alloc);
-    let printed = [
-        is_printed(
-            alloc,
-            &gate,
-            "ListenerGate { listener: TcpPort { .. }, .. }",
-        ),
-        is_printed(alloc, &dial, "DialGate { .. }"),
-    ];
-    (
-        printed,
-        serves_and_dials(rt, alloc, &mut gate, second, &mut dial),
+    listeners_serve(
+        rt,
+        alloc,
+        TcpPort::new(rt, alloc),
+        TcpPort::new(rt, alloc),
+        &mut DialGate::new(rt, alloc),
     )
 }
 

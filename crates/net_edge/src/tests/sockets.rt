@@ -1,9 +1,11 @@
 //! What a peer sees of a gate and its connections.
 
 use super::{HOW, link_of, next_slot, open_gate};
-use crate::tests::test_gates::TestGate;
-use crate::{TcpGate, TcpPort};
+use crate::TcpPort;
+use crate::tests::test_gates::{TestGate, TestListener};
+use listener_gate::ListenerGate;
 use std::alloc::Global;
+use std::fmt;
 use std::io::{self, Read, Write};
 use std::net::{Ipv4Addr, Net, SocketAddr, TcpListener, TcpStream};
 use std::thread::{self, Threads};
@@ -190,13 +192,23 @@ fn waits_for_peer<R: Clock, K: Link>(rt: &R, link: &mut K) -> Option<bool> {
     Some(!is_sent && waited >= Duration::from_millis(600))
 }
 
+/// The same, over a gate over this listener.
+fn gives_up_over<R: Net<Stream = TcpStream> + Clock, L: TestListener>(
+    rt: &R,
+    listener: L,
+) -> Option<bool>
+where
+    L::Conn: fmt::Debug,
+{
+    gives_up(rt, &mut ListenerGate::new(listener))
+}
+
 /// The same, over a gate whose clock is hurried.
 fn gives_up_soon<R>(rt: &R, alloc: Global) -> Option<bool>
 where
     R: Net<Listener = TcpListener, Stream = TcpStream> + Clock,
 {
-    let hurried = Hurried(rt);
-    gives_up(rt, &mut TcpGate::new(TcpPort::new(&hurried, alloc)))
+    gives_up_over(rt, TcpPort::new(&Hurried(rt), alloc))
 }
 
 #[test]

@@ -1,6 +1,9 @@
 //! Gates as the tests call them.
 
-use crate::{DialGate, TcpGate, TcpLink};
+ghost use Rattle.std.specs.Prelude.{◌≡◌, false, refl};
+
+use crate::{DialGate, TcpLink, TcpPort};
+use listener_gate::{Listener, ListenerGate};
 use std::fmt;
 use std::net::{Net, TcpListener, TcpStream};
 use std::time::Clock;
@@ -32,26 +35,47 @@ pub(crate) trait TestGate: Sized {
     fn join_part(&mut self, part: Self);
 }
 
-impl<'a, R: Net<Listener = TcpListener, Stream = TcpStream> + Clock> TestGate for TcpGate<'a, R> {
-    type Conn = TcpLink<'a, R>;
+/// A listener that exposes no calls to contracts, so that the calls of a gate over it require
+/// nothing. The gates are written over any such listener: so a proof doesn't repeat what a listener
+/// of the system is made of.
+pub(crate) trait TestListener: Listener + fmt::Debug + Drop {
+    /// Returns the port that it is bound to.
+    fn bound_port(&self) -> Option<u16>;
+
+    ghost quiet: { Self.tells ≡ false };
+}
+
+impl<R: Net<Listener = TcpListener, Stream = TcpStream> + Clock> TestListener for TcpPort<'_, R> {
+    ghost quiet = { refl };
+
+    fn bound_port(&self) -> Option<u16> {
+        self.port()
+    }
+}
+
+impl<L: TestListener> TestGate for ListenerGate<L>
+where
+    L::Conn: fmt::Debug,
+{
+    type Conn = L::Conn;
 
     fn open_as(&mut self, how: &Opening) -> Result<(), GateFault> {
         self.open(how)
     }
 
     fn port(&self) -> Option<u16> {
-        self.listener().port()
+        self.listener().bound_port()
     }
 
     fn split_off(&mut self) -> Result<Self, GateFault> {
         self.split()
     }
 
-    fn next_conn(&mut self) -> Result<Option<TcpLink<'a, R>>, GateFault> {
+    fn next_conn(&mut self) -> Result<Option<L::Conn>, GateFault> {
         self.take()
     }
 
-    fn end_conn(&mut self, conn: TcpLink<'a, R>) {
+    fn end_conn(&mut self, conn: L::Conn) {
         self.give_back(conn);
     }
 
