@@ -15,8 +15,8 @@ use mpeg_scan::scan;
 use plan_cert::Plan;
 use std::alloc::Global;
 use std::process::Abort;
-use std::slice;
 use std::test::Fail;
+use std::{fmt, slice};
 use vod_base::{MemoryLink, NoMemory, good_name};
 
 mod talks;
@@ -281,30 +281,57 @@ fn answers_each_request(rt: HostRuntime) -> Result<(), Fail> {
     Ok(())
 }
 
+/// Compares what a value prints. Each value is made and printed in a function of its own, since the
+/// values that are held make the proof of a test dearer.
+fn prints<T: fmt::Debug>(
+    rt: &impl Abort,
+    alloc: Global,
+    value: &T,
+    want: &str,
+) -> Result<(), NoMemory> {
+    let text = format!(in alloc; "{value:?}")?;
+    assert!(rt; text.as_str() == want, "{want}");
+    Ok(())
+}
+
+/// A play that goes on.
+const RUN: Run = Run {
+    first_unit: 0,
+    end_unit: 9,
+    from_unit: 4,
+    sent: 30,
+    played: 20,
+};
+
+fn prints_planned(rt: &impl Abort, alloc: Global) -> Result<(), NoMemory> {
+    let planned = Planned {
+        run: RUN,
+        counts: NOTHING_SENT,
+        plan: Plan::new(Vec::new(alloc)),
+    };
+    let want =
+        "Planned { run: Run { first_unit: 0, end_unit: 9, from_unit: 4, sent: 30, played: 20 }, \
+        counts: Counts { frames: 0, octets: 0 }, \
+        plan: Plan { segments: [], slots: 0, bytes: 0 } }";
+    prints(rt, alloc, &planned, want)
+}
+
+fn prints_session(rt: &impl Abort, alloc: Global, films: &[Stored]) -> Result<(), NoMemory>
+    requires { AreFilms films.now }
+{
+    let session = Session::new(alloc, films, SETTINGS, WORDS)?;
+    let want = "Session { waits: false, lost: false, heard: 0, late: 0, .. }";
+    prints(rt, alloc, &session, want)
+}
+
 #[test]
 fn prints_each_type(rt: HostRuntime) -> Result<(), Fail> {
-    let run = Run {
-        first_unit: 0,
-        end_unit: 9,
-        from_unit: 4,
-        sent: 30,
-        played: 20,
-    };
-    let planned = Planned {
-        run,
-        counts: NOTHING_SENT,
-        plan: Plan::new(Vec::new(rt.alloc())),
-    };
-    let (request, task) = (PlayRequest::Resumed(run), Task::Setup(1));
-    let film = film_of(rt.alloc())?;
-    let session = Session::new(rt.alloc(), only(&rt, &film), SETTINGS, WORDS)?;
-    let text = format!(in rt.alloc(); "{task:?} {request:?} {planned:?} {session:?}")?;
-    let want =
-        "Setup(1) Resumed(Run { first_unit: 0, end_unit: 9, from_unit: 4, sent: 30, played: 20 }) \
-        Planned { run: Run { first_unit: 0, end_unit: 9, from_unit: 4, sent: 30, played: 20 }, \
-        counts: Counts { frames: 0, octets: 0 }, \
-        plan: Plan { segments: [], slots: 0, bytes: 0 } } \
-        Session { waits: false, lost: false, heard: 0, late: 0, .. }";
-    assert!(rt; text.as_str() == want);
+    let alloc = rt.alloc();
+    prints(&rt, alloc, &Task::Setup(1), "Setup(1)")?;
+    let want = "Resumed(Run { first_unit: 0, end_unit: 9, from_unit: 4, sent: 30, played: 20 })";
+    prints(&rt, alloc, &PlayRequest::Resumed(RUN), want)?;
+    prints_planned(&rt, alloc)?;
+    let film = film_of(alloc)?;
+    prints_session(&rt, alloc, only(&rt, &film))?;
     Ok(())
 }
