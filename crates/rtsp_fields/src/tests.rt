@@ -81,7 +81,8 @@ fn is_right(kind: Kind, row: &str) -> bool {
         Kind::Url => is_url(row),
         Kind::Numbers => is_number(row),
         Kind::Session => {
-            session_matches(part(row, 0).as_bytes(), b"0123456789abcdef") == (part(row, 1) == "true")
+            session_matches(part(row, 0).as_bytes(), b"0123456789abcdef")
+                == (part(row, 1) == "true")
         }
     }
 }
