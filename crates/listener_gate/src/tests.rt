@@ -124,8 +124,7 @@ cccc|0|3|otttttt|kcccnnn
 /// What the listener does for two connections, where the shortages before the first make the gate
 /// wait longer and longer, up to a second.
 const SHORTAGES: &str = "\
-sslssssssc\
-sc|0|3|ott|kcc|[Bound([127, 0, 0, 1], 554, 14400), \
+sslsssssscsc|0|3|ott|kcc|[Bound([127, 0, 0, 1], 554, 14400), \
 ShortageError, Waited(10), ShortageError, Waited(20), TransientError, \
 ShortageError, Waited(40), ShortageError, Waited(80), ShortageError, Waited(160), \
 ShortageError, Waited(320), ShortageError, Waited(640), ShortageError, Waited(1000), Accepted, \

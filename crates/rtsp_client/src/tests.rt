@@ -302,6 +302,7 @@ fn add_events(alloc: Global, events: &mut Vec<Event>, tell: Tell, cut: bool) -> 
         Slot(slot) => return events.push(Event::Slot(slot)).ok(),
         Tell::End => return events.push(Event::End).ok(),
     };
+    // No text of these tests has more bytes than that.
     let most = if cut { 1 } else { 1_000 };
     for part in bytes.chunks(most) {
         add_bytes(alloc, events, part)?;
